@@ -35,24 +35,15 @@ abbrev pub out_indices : List Served → List Index
 out_indices served = map item_index (outs served)
 
 -- what there is and what has left is what there was and what has come, however often each
-abbrev pub Balances : List Index → List Index → List Index → List Index → Type 0
-Balances base now came gone =
-    (i : ℕ) → occurrences i now + occurrences i gone ≡ occurrences i base + occurrences i came
+pub record Balances (base now came gone : List Index) : Type 0 where
+  pub counts : (i : ℕ) → occurrences i now + occurrences i gone ≡ occurrences i base + occurrences i came
 
 -- one more may be written down
 abbrev pub HasRoom : Vec Index → Type 0
 HasRoom indices = vec_len indices < vec_capacity indices
 
--- the ready messages, as they are and as they were at the last commit, with what came and left
-pub record ReadyTracked : Type 0 where
-  pub queue : Queue
-  pub base : Queue
-  pub came : List Index
-  pub gone : List Index
-
--- the same of the dead messages
-pub record DeadTracked : Type 0 where
-  pub letters : Letters
-  pub base : Letters
+-- a store, with the indices of what came and left since the last commit
+pub record Tracking (T : Type 0) : Type 0 where
+  pub store : T
   pub came : List Index
   pub gone : List Index

@@ -7,11 +7,11 @@ mod law;
 mod ledger;
 mod ready;
 mod scans;
+mod tracked;
 
-pub use dead::TrackedDead;
 pub use law::low_is_of_the_parts;
 pub use ledger::Ledger;
 pub use qq_base::{Index, Memory};
 pub use qq_live::Live;
-pub use ready::TrackedReady;
 pub use scans::{push_all, push_consumers, push_dead, push_out, push_ready};
+pub use tracked::{Holds, Tracked};

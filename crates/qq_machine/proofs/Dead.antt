@@ -39,9 +39,9 @@ with_letters d t =
 abbrev offer_of : DeadRow → Message → Effect
 offer_of one message = Offer one.number one.reason message
 
-may-is : (args : QueueArgs) (old : Queue) → may_give (parts_of args old) ≡ may_offer old.dead.letters
+may-is : (args : QueueArgs) (old : Queue) → may_give (parts_of args old) ≡ may_offer old.dead.store.letters
 may-is args old =
-    let d : Letters = old.dead.letters in
+    let d : Letters = old.dead.store.letters in
     ap (λ n. nat_lt 0 d.attached && nat_lt n MOST_GIVEN)
     (count-over (λ (x : Item). nat_le (item_number x) d.given) dead_item d.rows)
 
@@ -57,29 +57,30 @@ offered-by false o t = refl
 -- what is offered next is what the list offers next
 pub offer-is : (args : QueueArgs) (old : Draft)
     → parts_give_dead (work_of args old)
-    ≡ parts_offer_by (option_map dead_item (next_offer old.queue.dead.letters)) (work_of args old)
+    ≡ parts_offer_by (option_map dead_item (next_offer old.queue.dead.store.letters)) (work_of args old)
 unfolding parts_give_dead
 offer-is args old =
-    let d : Letters = old.queue.dead.letters in
+    let d : Letters = old.queue.dead.store.letters in
     let t : Work = work_of args old in
     ap (λ (b : Bool). if b then parts_offer_by (first_above d.given t.parts.dead) t else None) (may-is args old.queue)
     ∙ ap (λ (o : Option Item). if may_offer d then parts_offer_by o t else None) (above-is d)
     ∙ offered-by (may_offer d) (next_dead d.given d.rows) t
 
-pub nothing-offered : (args : QueueArgs) (old : Draft) → next_offer old.queue.dead.letters ≡ None
+pub nothing-offered : (args : QueueArgs) (old : Draft) → next_offer old.queue.dead.store.letters ≡ None
     → parts_give_dead (work_of args old) ≡ None
 nothing-offered args old none =
     offer-is args old ∙ ap (λ (o : Option DeadRow). parts_offer_by (option_map dead_item o) (work_of args old)) none
 
 -- and it is given
 pub offered : (args : QueueArgs) (old : Draft) (one : DeadRow) (d : Letters) (message : Message)
-    → next_offer old.queue.dead.letters ≡ Some one → d ≡ give old.queue.dead.letters → message ≡ one.row.message
+    → next_offer old.queue.dead.store.letters ≡ Some one → d ≡ give old.queue.dead.store.letters
+    → message ≡ one.row.message
     → parts_give_dead (work_of args old)
     ≡ Some (record (with_letters d (work_of args old)) { effects = old.effects.items ++ offer_of one message ∷ [] })
 offered args old one d message some gave same =
     let t : Work = work_of args old in
-    let given : d ≡ record (old.queue.dead.letters) { given = one.number } =
-    gave ∙ ap (λ (o : Option DeadRow). give_by o old.queue.dead.letters) some in
+    let given : d ≡ record (old.queue.dead.store.letters) { given = one.number } =
+    gave ∙ ap (λ (o : Option DeadRow). give_by o old.queue.dead.store.letters) some in
     offer-is args old ∙ ap (λ (o : Option DeadRow). parts_offer_by (option_map dead_item o) t) some
     ∙ ap (λ (k : Letters). Some (record (with_letters k t) {
       effects = old.effects.items ++ offer_of one one.row.message ∷ [];
@@ -172,9 +173,9 @@ none-stays number (one ∷ rows) none = elim (cases_Bool (has_number number one)
 
 -- a dead letter is settled, or its number isn't one that was given
 pub settles-one : (args : QueueArgs) (old : Draft) (term number count : ℕ) (o : Option ReadyRow) (d : Letters)
-    → term ≡ old.queue.dead.letters.attached → Rises old.queue.dead.letters.rows
-    → o ≡ option_map (λ (one : DeadRow). one.row) (settled term number old.queue.dead.letters)
-    → d ≡ settle term number old.queue.dead.letters
+    → term ≡ old.queue.dead.store.letters.attached → Rises old.queue.dead.store.letters.rows
+    → o ≡ option_map (λ (one : DeadRow). one.row) (settled term number old.queue.dead.store.letters)
+    → d ≡ settle term number old.queue.dead.store.letters
     → parts_settle_dead_by (take_given number (parts_of args old.queue))
     (record { work = work_of args old; count = count })
     ≡ record { work = with_letters d (work_of args old); count = if is_some o then count + 1 else count }
@@ -186,7 +187,7 @@ settles-one args old term number count o d attached rising value made =
     record l { rows = filter (λ (one : DeadRow). not (has_number number one)) l.rows } else l) given)
   where
     l : Letters
-    l = old.queue.dead.letters
+    l = old.queue.dead.store.letters
 
     given : nat_eq term l.attached ≡ true
     given = eq-eqb term l.attached attached

@@ -47,9 +47,9 @@ told base now cr cc cd gr gc gd l0 l1 l2 l3 l4 l5 l6 holds a1 a2 a3 r1 r2 r3 br 
     let y1 = r1 i in
     let y2 = r2 i in
     let y3 = r3 i in
-    let z1 = br i in
-    let z2 = bc i in
-    let z3 = bd i in
+    let z1 = br.counts i in
+    let z2 = bc.counts i in
+    let z3 = bd.counts i in
     let sb = indices-sum i base in
     let sn = indices-sum i now in
     omega (arith, h, x1, x2, x3, y1, y2, y3, z1, z2, z3, sb, sn)
@@ -67,19 +67,19 @@ map-dead (row ∷ rows) = ap (λ (xs : List Index). row.row.index ∷ xs) (map-d
 pub indices-are : (args : QueueArgs) (q : Queue)
     → map item_index (items_of (parts_of args q)) ≡ indices_in (content_of q)
 indices-are args q =
-    let fronts = map keyed_item q.ready.queue.fronts in
-    let backs = map keyed_item q.ready.queue.backs in
+    let fronts = map keyed_item q.ready.store.queue.fronts in
+    let backs = map keyed_item q.ready.store.queue.backs in
     let out = outs q.consumers.roster.served in
-    let dead = map dead_item q.dead.letters.rows in
+    let dead = map dead_item q.dead.store.letters.rows in
     map-append item_index (fronts ++ backs) (out ++ dead)
     ∙ ap (λ (xs : List Index). xs ++ map item_index (out ++ dead))
     (map-append item_index fronts backs
-    ∙ ap (λ (xs : List Index). xs ++ map item_index backs) (map-keyed q.ready.queue.fronts)
-    ∙ ap (λ (xs : List Index). map keyed_index q.ready.queue.fronts ++ xs) (map-keyed q.ready.queue.backs)
-    ∙ sym (map-append keyed_index q.ready.queue.fronts q.ready.queue.backs))
-    ∙ ap (λ (xs : List Index). ready_indices q.ready.queue ++ xs)
+    ∙ ap (λ (xs : List Index). xs ++ map item_index backs) (map-keyed q.ready.store.queue.fronts)
+    ∙ ap (λ (xs : List Index). map keyed_index q.ready.store.queue.fronts ++ xs) (map-keyed q.ready.store.queue.backs)
+    ∙ sym (map-append keyed_index q.ready.store.queue.fronts q.ready.store.queue.backs))
+    ∙ ap (λ (xs : List Index). ready_indices q.ready.store.queue ++ xs)
     (map-append item_index out dead
-    ∙ ap (λ (xs : List Index). map item_index out ++ xs) (map-dead q.dead.letters.rows))
+    ∙ ap (λ (xs : List Index). map item_index out ++ xs) (map-dead q.dead.store.letters.rows))
 
 -- ---- kept answers
 

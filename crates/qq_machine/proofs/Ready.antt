@@ -15,9 +15,9 @@ use Rattle.qq_parts.specs.Parts.{Parts, outs, items_of}
 use Rattle.qq_parts.specs.Reads.{ready_items, size_of}
 use Rattle.qq_parts.specs.Changes.{take_first, push_back, arrive}
 use Rattle.qq_ready.specs.declared.row.KeyedRow.{KeyedRow}
-use Rattle.qq_ledger.specs.Ledger.{ReadyTracked}
+use Rattle.qq_ledger.specs.Ledger.{Tracking}
 use Rattle.qq_ready.specs.Queue.{in_order, head, without_next, queue_of, bytes_of}
-use Rattle.qq_ready.specs.Queue.{Queue as Keyed}
+use Rattle.qq_ready.specs.Queue.{Queue as Keyed, ReadyState}
 use Rattle.qq_consumer.specs.Roster.{item_at}
 use Rattle.qq_machine.specs.declared.queue.Queue.{Queue}
 use Rattle.qq_machine.specs.Views.{keyed_item, dead_item, parts_of, IsFirst}
@@ -57,30 +57,32 @@ none-by [] [] orders returns is = (refl, λ m. refl)
 none-by [] (one ∷ backs) orders returns is = absurd cc
 none-by (one ∷ fronts) backs orders returns is = absurd cc
 
-pub first-is : (o : Option ReadyRow) (old : Queue) (ready : ReadyTracked)
-    → o ≡ option_map row_in (head (in_order old.ready.queue)) → ready.queue ≡ without_next old.ready.queue
+pub first-is : (o : Option ReadyRow) (old : Queue) (ready : Tracking ReadyState)
+    → o ≡ option_map row_in (head (in_order old.ready.store.queue))
+    → ready.store.queue ≡ without_next old.ready.store.queue
     → IfSome o (λ row. IsFirst row old (record old { ready = ready }))
 first-is None old ready is left = tt
 first-is (Some row) old ready is left =
-    let q : Keyed = old.ready.queue in
+    let q : Keyed = old.ready.store.queue in
     let made = first-by q.fronts q.backs q.orders q.returns row (sym is) in
     subst (λ (r : Keyed). (key : Key) × ((args : QueueArgs) → take_first (parts_of args old)
     ≡ Some (record { item = item_at (Ready key) row; left = with_ready r (parts_of args old) })))
     (sym left) (made.0, λ args. made.1 (parts_of args old))
 
-pub none-first : (o : Option ReadyRow) (old : Queue) → o ≡ option_map row_in (head (in_order old.ready.queue))
+pub none-first : (o : Option ReadyRow) (old : Queue) → o ≡ option_map row_in (head (in_order old.ready.store.queue))
     → IfNone o ((args : QueueArgs) → take_first (parts_of args old) ≡ None)
 none-first (Some row) old is = tt
 none-first None old is =
-    let q : Keyed = old.ready.queue in
+    let q : Keyed = old.ready.store.queue in
     λ args. (none-by q.fronts q.backs q.orders q.returns (sym is)).1 (parts_of args old)
 
-pub none-still : (o : Option ReadyRow) (old : Queue) (ready : ReadyTracked)
-    → o ≡ option_map row_in (head (in_order old.ready.queue)) → ready.queue ≡ without_next old.ready.queue
+pub none-still : (o : Option ReadyRow) (old : Queue) (ready : Tracking ReadyState)
+    → o ≡ option_map row_in (head (in_order old.ready.store.queue))
+    → ready.store.queue ≡ without_next old.ready.store.queue
     → IfNone o ((args : QueueArgs) → parts_of args (record old { ready = ready }) ≡ parts_of args old)
 none-still (Some row) old ready is left = tt
 none-still None old ready is left =
-    let q : Keyed = old.ready.queue in
+    let q : Keyed = old.ready.store.queue in
     λ args. ap (λ (r : Keyed). with_ready r (parts_of args old))
     (left ∙ (none-by q.fronts q.backs q.orders q.returns (sym is)).0)
 
@@ -102,25 +104,26 @@ ready-is : (q : Keyed) (m : Parts) → ready_items (with_ready q m) ≡ map keye
 ready-is q m = sym (map-append keyed_item q.fronts q.backs)
 
 pub ready_count : (args : QueueArgs) (old : Queue)
-    → length (ready_items (parts_of args old)) ≡ length (in_order old.ready.queue)
+    → length (ready_items (parts_of args old)) ≡ length (in_order old.ready.store.queue)
 ready_count args old =
-    ap length (ready-is old.ready.queue (parts_of args old)) ∙ length-map (in_order old.ready.queue) keyed_item
+    ap length (ready-is old.ready.store.queue (parts_of args old))
+    ∙ length-map (in_order old.ready.store.queue) keyed_item
 
 pub ready_bytes : (args : QueueArgs) (old : Queue)
-    → size_of (ready_items (parts_of args old)) ≡ bytes_of (in_order old.ready.queue)
+    → size_of (ready_items (parts_of args old)) ≡ bytes_of (in_order old.ready.store.queue)
 ready_bytes args old =
-    ap size_of (ready-is old.ready.queue (parts_of args old))
-    ∙ sum-over (λ (x : Item). x.row.size) keyed_item (in_order old.ready.queue)
+    ap size_of (ready-is old.ready.store.queue (parts_of args old))
+    ∙ sum-over (λ (x : Item). x.row.size) keyed_item (in_order old.ready.store.queue)
 
 pub live_count : (args : QueueArgs) (old : Queue) → length (items_of (parts_of args old))
-    ≡ length (in_order old.ready.queue)
-    + (length (outs old.consumers.roster.served) + length old.dead.letters.rows)
+    ≡ length (in_order old.ready.store.queue)
+    + (length (outs old.consumers.roster.served) + length old.dead.store.letters.rows)
 live_count args old =
     let m : Parts = parts_of args old in
     let first : length (items_of m) ≡ length (ready_items m) + length (outs m.served ++ m.dead) =
     length-append (ready_items m) (outs m.served ++ m.dead) in
     let second : length (outs m.served ++ m.dead) ≡ length (outs m.served) + length m.dead =
     length-append (outs m.served) m.dead in
-    let third : length m.dead ≡ length old.dead.letters.rows = length-map old.dead.letters.rows dead_item in
+    let third : length m.dead ≡ length old.dead.store.letters.rows = length-map old.dead.store.letters.rows dead_item in
     let ready = ready_count args old in
     omega (arith, first, second, third, ready)

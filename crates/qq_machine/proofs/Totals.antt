@@ -504,8 +504,7 @@ keeps-same old new out base came gone tracked same still =
             base_out = tracked.counted.base_out ∙ sym (ap (λ (r : Roster). total r.served) still);
           };
       balance =
-          balance-same (out_indices old.base.served) (out_indices new.base.served) (out_indices old.roster.served)
-          (out_indices new.roster.served) came gone came gone tracked.balance
+          balance-same tracked.balance
           (ap (λ (r : Roster). out_indices r.served) still)
           (named-same old.roster.served new.roster.served same) refl refl;
     }
@@ -531,8 +530,7 @@ keeps-more old new out base after came gone came' gone' index tracked count more
             base_out = tracked.counted.base_out ∙ sym (ap (λ (r : Roster). total r.served) still);
           };
       balance =
-          balance-more (out_indices old.base.served) (out_indices new.base.served) (out_indices old.roster.served)
-          (out_indices new.roster.served) came gone came' gone' (index ∷ []) tracked.balance
+          balance-more (index ∷ []) tracked.balance
           (ap (λ (r : Roster). out_indices r.served) still) more comes goes;
     }
 
@@ -550,8 +548,7 @@ keeps-less old new out base after came gone came' gone' less tracked count fewer
             base_out = tracked.counted.base_out ∙ sym (ap (λ (r : Roster). total r.served) still);
           };
       balance =
-          balance-less (out_indices old.base.served) (out_indices new.base.served) (out_indices old.roster.served)
-          (out_indices new.roster.served) came gone came' gone' less tracked.balance
+          balance-less less tracked.balance
           (ap (λ (r : Roster). out_indices r.served) still) fewer comes goes;
     }
 
@@ -567,8 +564,7 @@ keeps-back old failed new out base came gone came' gone' tracked same back stays
             base_out = tracked.counted.base_out ∙ sym (ap (λ (r : Roster). total r.served) (stays ∙ same));
           };
       balance =
-          balance-none (out_indices new.base.served) (out_indices new.roster.served) came' gone'
-          (ap (λ (r : Roster). out_indices r.served) (back ∙ sym stays)) comes goes;
+          balance-none (ap (λ (r : Roster). out_indices r.served) (back ∙ sym stays)) comes goes;
     }
 
 -- a copy is of what is now, with nothing written down
@@ -583,6 +579,5 @@ keeps-copy old new out base came gone came' gone' tracked same stays comes goes 
             base_out = tracked.counted.now_out ∙ sym (ap (λ (r : Roster). total r.served) stays);
           };
       balance =
-          balance-none (out_indices new.base.served) (out_indices new.roster.served) came' gone'
-          (ap (λ (r : Roster). out_indices r.served) (same ∙ sym stays)) comes goes;
+          balance-none (ap (λ (r : Roster). out_indices r.served) (same ∙ sym stays)) comes goes;
     }

@@ -53,20 +53,20 @@ dead-rise (one ∷ rows) rising = (
   dead-rise rows rising.1,
 )
 
-pub whole : (args : QueueArgs) (q : Queue) → IsInOrder q.ready.queue → AreNumbered q.dead.letters
+pub whole : (args : QueueArgs) (q : Queue) → IsInOrder q.ready.store.queue → AreNumbered q.dead.store.letters
     → AreApart q.consumers.roster.served → AllByRecursion HasOut q.consumers.roster.served → IsWhole (parts_of args q)
 whole args q order numbered apart out =
     record {
-      fronts = keyed (λ n. Front n) q.ready.queue.returns q.ready.queue.fronts order.fronts;
-      backs = keyed (λ n. Back n) q.ready.queue.orders q.ready.queue.backs order.backs;
+      fronts = keyed (λ n. Front n) q.ready.store.queue.returns q.ready.store.queue.fronts order.fronts;
+      backs = keyed (λ n. Back n) q.ready.store.queue.orders q.ready.store.queue.backs order.backs;
       served = out;
       apart = apart;
       dead =
           record {
-            rising = dead-rise q.dead.letters.rows numbered.rising;
+            rising = dead-rise q.dead.store.letters.rows numbered.rising;
             each =
-                AllByRecursion-map (IsDrawn q.dead.letters.deads) (IsDead q.dead.letters.deads) dead_item
-                q.dead.letters.rows
+                AllByRecursion-map (IsDrawn q.dead.store.letters.deads) (IsDead q.dead.store.letters.deads) dead_item
+                q.dead.store.letters.rows
                 (λ one drawn. record { reason = one.reason; place = refl; drawn = drawn.1 })
                 numbered.drawn;
           };

@@ -53,12 +53,12 @@ rest_of args q =
       args = args;
       applied = q.applied;
       arrivals = q.arrivals;
-      orders = q.ready.queue.orders;
-      returns = q.ready.queue.returns;
-      deads = q.dead.letters.deads;
+      orders = q.ready.store.queue.orders;
+      returns = q.ready.store.queue.returns;
+      deads = q.dead.store.letters.deads;
       turns = q.consumers.roster.turns;
-      given = q.dead.letters.given;
-      attached = q.dead.letters.attached;
+      given = q.dead.store.letters.given;
+      attached = q.dead.store.letters.attached;
       rows = [];
       messages = [];
       consumers = [];
@@ -69,10 +69,10 @@ abbrev pub parts_of : QueueArgs → Queue → Parts
 parts_of args q =
     record {
       rest = rest_of args q;
-      fronts = map keyed_item q.ready.queue.fronts;
-      backs = map keyed_item q.ready.queue.backs;
+      fronts = map keyed_item q.ready.store.queue.fronts;
+      backs = map keyed_item q.ready.store.queue.backs;
       served = q.consumers.roster.served;
-      dead = map dead_item q.dead.letters.rows;
+      dead = map dead_item q.dead.store.letters.rows;
     }
 
 -- What is kept for an undo ------------------------------------------------------------------------------
@@ -92,9 +92,9 @@ content_of q =
       applied = q.applied;
       arrivals = q.arrivals;
       sessions = q.sessions.known;
-      ready = q.ready.queue;
+      ready = q.ready.store.queue;
       roster = q.consumers.roster;
-      letters = q.dead.letters;
+      letters = q.dead.store.letters;
     }
 
 -- the parts of a queue with these contents
@@ -130,9 +130,9 @@ base_of q =
       applied = q.saved.applied;
       arrivals = q.saved.arrivals;
       sessions = q.sessions.base;
-      ready = q.ready.base;
+      ready = q.ready.store.base;
       roster = q.consumers.base;
-      letters = q.dead.base;
+      letters = q.dead.store.base;
     }
 
 -- these, and what there is to do to the sessions

@@ -52,8 +52,8 @@ impl Queue {
             count ≡ length (items_of (parts_of args self.now))) }
         ensures want { IsOkUnless result Memory.Want }
     {
-        let kept = add(self.consumers.out_count(), self.dead.len() as u64)?;
-        let live = add(self.ready.count(), kept)?;
+        let kept = add(self.consumers.out_count(), self.dead.store().len() as u64)?;
+        let live = add(self.ready.store().count(), kept)?;
         Ok(live)
     }
 
@@ -62,7 +62,8 @@ impl Queue {
         ensures want { IsOkUnless result Memory.Want }
     {
         let live = self.live()?;
-        Ok(refuses(args, self.ready.count(), self.ready.bytes(), live))
+        let ready = self.ready.store();
+        Ok(refuses(args, ready.count(), ready.bytes(), live))
     }
 }
 
@@ -207,7 +208,7 @@ impl Draft {
         ensures base { KeepsBase self.old.queue self.new.queue }
         ensures want { IsOkUnless result Memory.Want }
     {
-        let count = self.queue.ready.count();
+        let count = self.queue.ready.store().count();
         self.queue.ready.clear()?;
         Ok(Answer::Purged { count })
     }
@@ -220,18 +221,18 @@ impl Draft {
         number: u64,
         count: u64,
     ) -> Result<u64, Memory>
-        requires { term.0 ≡ self.old.queue.dead.letters.attached }
+        requires { term.0 ≡ self.old.queue.dead.store.letters.attached }
 
         ensures ok { IfOk result (λ after. parts_settle_dead_by
             (take_given number (parts_of args.now self.old.queue))
             (record { work = work_of args.now self.old; count = count })
             ≡ record { work = work_of args.now self.new; count = after }) }
-        ensures attached { OnOk result (self.new.queue.dead.letters.attached
-            ≡ self.old.queue.dead.letters.attached) }
+        ensures attached { OnOk result (self.new.queue.dead.store.letters.attached
+            ≡ self.old.queue.dead.store.letters.attached) }
         ensures base { KeepsBase self.old.queue self.new.queue }
         ensures want { IsOkUnless result Memory.Want }
     {
-        self.queue.dead.counters();
+        self.queue.dead.store().counters();
         let settled = self.queue.dead.settle(term, number)?;
         let did = settled.is_some();
         drop(settled);
@@ -245,7 +246,7 @@ impl Draft {
         term: Term,
         done: &[DeadDone],
     ) -> Result<u64, Memory>
-        requires { term.0 ≡ self.old.queue.dead.letters.attached }
+        requires { term.0 ≡ self.old.queue.dead.store.letters.attached }
 
         ensures ok { IfOk result (λ count. parts_settle_dead done.now (work_of args.now self.old)
             ≡ record { work = work_of args.now self.new; count = count }) }
@@ -272,7 +273,7 @@ impl Draft {
         ensures base { KeepsBase self.old.queue self.new.queue }
         ensures want { IsOkUnless result Memory.Want }
     {
-        let (_, _, attached) = self.queue.dead.counters();
+        let (_, _, attached) = self.queue.dead.store().counters();
         if !is_at_least_once(args.strategy) || term.0 != attached.0 {
             return Ok(Answer::Stale);
         }

@@ -20,9 +20,11 @@ impl Queue {
     pub fn sizes(&self) -> (u64, usize, usize)
         ensures { (args : QueueArgs) → IsWhole (parts_of args self.now) }
     {
-        self.ready.counters();
-        self.dead.counters();
-        (self.ready.count(), self.dead.len(), self.consumers.len())
+        let ready = self.ready.store();
+        let dead = self.dead.store();
+        ready.counters();
+        dead.counters();
+        (ready.count(), dead.len(), self.consumers.len())
     }
 }
 

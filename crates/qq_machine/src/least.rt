@@ -76,9 +76,9 @@ impl Queue {
         ensures want { IsOkUnless result Memory.Want }
     {
         let mut indices = Vec::new(alloc);
-        push_ready(self.ready.ready(), &mut indices)?;
+        push_ready(self.ready.store(), &mut indices)?;
         push_consumers(self.consumers.table(), &mut indices)?;
-        push_dead(self.dead.dead(), &mut indices)?;
+        push_dead(self.dead.store(), &mut indices)?;
         let live = Live::from_indices(alloc, indices)?;
         Ok(live)
     }

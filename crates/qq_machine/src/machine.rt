@@ -24,7 +24,7 @@ use qq_base::{ConsumerId, Duplicate, Index, Memory, both};
 use qq_consumer::Consumers;
 use qq_dead::Dead;
 use qq_entry::{Answer, Delivery, Effect, Entry, QueueArgs};
-use qq_ledger::{TrackedDead, TrackedReady};
+use qq_ledger::Tracked;
 use qq_live::Live;
 use qq_ready::Ready;
 use qq_sessions::Sessions;
@@ -77,9 +77,9 @@ impl Queue {
                 arrivals: 0,
             },
             sessions: Gated::new(alloc),
-            ready: TrackedReady::new(alloc),
+            ready: Tracked::over(alloc, Ready::new(alloc)),
             consumers: Counted::new(alloc),
-            dead: TrackedDead::new(alloc),
+            dead: Tracked::over(alloc, Dead::new(alloc)),
         }
     }
 
@@ -229,9 +229,9 @@ impl Machine {
                 arrivals: 0,
             },
             sessions: Gated::from_sessions(sessions),
-            ready: TrackedReady::from_ready(alloc, ready),
+            ready: Tracked::over(alloc, ready),
             consumers,
-            dead: TrackedDead::from_dead(alloc, dead),
+            dead: Tracked::over(alloc, dead),
         };
         queue.commit();
         let Ok(live) = queue.live_messages(alloc) else {
@@ -261,9 +261,9 @@ impl Machine {
         let queue = &self.draft.queue;
         (
             queue.sessions.sessions(),
-            queue.ready.ready(),
+            queue.ready.store(),
             queue.consumers.table(),
-            queue.dead.dead(),
+            queue.dead.store(),
         )
     }
 
@@ -275,7 +275,7 @@ impl Machine {
     {
         let queue = &self.draft.queue;
         let current = current_count(queue.consumers.table());
-        (queue.ready.count(), to_u32(current))
+        (queue.ready.store().count(), to_u32(current))
     }
 
     /// What is out with a consumer, from an id on, by rising id.

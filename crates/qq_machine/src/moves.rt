@@ -35,7 +35,7 @@ impl Queue {
         ensures base { KeepsBase self.old self.new }
         ensures want { IsOkUnless result Memory.Want }
     {
-        let (orders, _) = self.ready.counters();
+        let (orders, _) = self.ready.store().counters();
         if let Err(cause) = next_number(orders) {
             drop(row);
             return Err(cause);
@@ -50,7 +50,7 @@ impl Queue {
         ensures base { KeepsBase self.old self.new }
         ensures want { IsOkUnless result Memory.Want }
     {
-        let (_, returns) = self.ready.counters();
+        let (_, returns) = self.ready.store().counters();
         if let Err(cause) = next_number(returns) {
             drop(row);
             return Err(cause);
@@ -65,7 +65,7 @@ impl Queue {
         ensures base { KeepsBase self.old self.new }
         ensures want { IsOkUnless result Memory.Want }
     {
-        let (deads, _, _) = self.dead.counters();
+        let (deads, _, _) = self.dead.store().counters();
         if let Err(cause) = next_number(deads) {
             drop(row);
             return Err(cause);

@@ -3,8 +3,10 @@ ghost use Rattle.std.specs.Prelude.{◌≡◌, ◌+◌, ◌<◌, ◌≤◌, ◌^
 use crate::counted::Counted;
 use crate::gated::Gated;
 use qq_base::Memory;
+use qq_dead::Dead;
 use qq_entry::{Answer, Effect};
-use qq_ledger::{TrackedDead, TrackedReady};
+use qq_ledger::Tracked;
+use qq_ready::Ready;
 
 /// The numbers of a queue at the last commit.
 #[derive(Clone, Copy)]
@@ -21,9 +23,9 @@ pub struct Queue {
     pub arrivals: u64,
     pub saved: Saved,
     pub sessions: Gated,
-    pub ready: TrackedReady,
+    pub ready: Tracked<Ready>,
     pub consumers: Counted,
-    pub dead: TrackedDead,
+    pub dead: Tracked<Dead>,
 }
 
 /// A queue while an entry is applied, and the effects so far.

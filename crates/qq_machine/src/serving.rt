@@ -121,7 +121,7 @@ impl Draft {
         ensures base { KeepsBase self.old.queue self.new.queue }
         ensures want { IsOkUnless result Memory.Want }
     {
-        let ready = self.queue.ready.count();
+        let ready = self.queue.ready.store().count();
         'rounds: for _round in 0..ready {
             if !self.check_out(alloc, args)? {
                 return Ok(());
@@ -203,7 +203,8 @@ impl Draft {
         ensures base { KeepsBase self.old.queue self.new.queue }
         ensures want { IsOkUnless result Memory.Want }
     {
-        if !over(args, self.queue.ready.count(), self.queue.ready.bytes()) {
+        let ready = self.queue.ready.store();
+        if !over(args, ready.count(), ready.bytes()) {
             return Ok(false);
         }
         let taken = self.queue.take_first()?;
@@ -222,7 +223,7 @@ impl Draft {
         ensures base { KeepsBase self.old.queue self.new.queue }
         ensures want { IsOkUnless result Memory.Want }
     {
-        let ready = self.queue.ready.count();
+        let ready = self.queue.ready.store().count();
         'rounds: for _round in 0..ready {
             if !self.drop_head(args)? {
                 return Ok(());
@@ -239,7 +240,7 @@ impl Draft {
         ensures base { KeepsBase self.old.queue self.new.queue }
         ensures want { IsOkUnless result Memory.Want }
     {
-        let Some(one) = self.queue.dead.next_offer() else {
+        let Some(one) = self.queue.dead.store().next_offer() else {
             return Ok(false);
         };
         let effect = Effect::Offer {
@@ -259,7 +260,7 @@ impl Draft {
         ensures base { KeepsBase self.old.queue self.new.queue }
         ensures want { IsOkUnless result Memory.Want }
     {
-        let dead = self.queue.dead.len();
+        let dead = self.queue.dead.store().len();
         'rounds: for _round in 0..dead {
             if !self.give_dead(alloc, args)? {
                 return Ok(());

@@ -50,8 +50,8 @@ impl Queue {
     fn are_far(&self) -> bool
         ensures { (args : QueueArgs) → result ≡ are_far (rest_of args self.now) }
     {
-        let (orders, returns) = self.ready.counters();
-        let (deads, _, _) = self.dead.counters();
+        let (orders, returns) = self.ready.store().counters();
+        let (deads, _, _) = self.dead.store().counters();
         let turns = self.consumers.turns();
         self.applied <= HALFWAY
             && self.arrivals <= HALFWAY
@@ -68,8 +68,8 @@ impl Queue {
     {
         let sessions = self.sessions.are_within(alloc)?;
         let consumers = are_consumers_within(self.consumers.table());
-        let (orders, returns) = self.ready.counters();
-        let (deads, _, _) = self.dead.counters();
+        let (orders, returns) = self.ready.store().counters();
+        let (deads, _, _) = self.dead.store().counters();
         let turns = self.consumers.turns();
         Ok(
             self.applied <= NUMBER_END
@@ -102,7 +102,7 @@ impl Queue {
         if !within {
             return Err(Memory::Spent { number: NUMBER_END });
         }
-        let (orders, returns) = self.ready.counters();
+        let (orders, returns) = self.ready.store().counters();
         let few = are_few(orders, returns);
         if !few {
             return Err(Memory::Want);

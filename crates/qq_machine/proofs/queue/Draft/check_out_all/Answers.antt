@@ -1,6 +1,7 @@
-use Rattle.std.proofs.Common.{ℕ, ◌-◌, ap, sym, ◌∙◌, arith}
+use Rattle.std.proofs.Common.{ℕ, ◌-◌, length, ap, sym, ◌∙◌, arith}
 use Rattle.qq_model.specs.Changes.{while_next}
 use Rattle.qq_parts.specs.Follows.{parts_check_out, parts_check_out_all}
+use Rattle.qq_ready.specs.Queue.{ReadyState, in_order}
 use Rattle.qq_machine.specs.Views.{work_of}
 use Rattle.qq_machine.proofs.Lists.{while_next-more, while_next-over}
 use Rattle.qq_machine.proofs.Ready.{ready_count}
@@ -18,7 +19,9 @@ rounds-preserved c = record {
 pub returns-then-not-branch-clause-ok : goal.returns-then-not-branch-clause-ok
 unfolding parts_check_out_all
 returns-then-not-branch-clause-ok c =
-    ap (λ (k : ℕ). while_next k parts_check_out (work_of c.args.args.now c.args.self.now)) (ready_count c.args.args.now c.args.self.now.queue ∙ sym c.count-ready.ensures)
+    ap (λ (k : ℕ). while_next k parts_check_out (work_of c.args.args.now c.args.self.now))
+    (ready_count c.args.args.now c.args.self.now.queue
+    ∙ sym (c.count-ready.ensures ∙ ap (λ (r : ReadyState). length (in_order r.queue)) c.store.ensures))
     ∙ while_next-over (c.count-ready.result - c.rounds._round) parts_check_out (work_of c.args.args.now c.rounds.self)
     (work_of c.args.args.now c.check_out.new.self) _ c.in_ok-check_out.field-0 c.in_ok-check_out.ensures.ok c.if-not-branch.true
     c.rounds.invariant.same (c.in_ok-check_out.ensures.still c.if-not-branch.true)

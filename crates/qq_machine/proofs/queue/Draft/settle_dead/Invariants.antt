@@ -10,6 +10,6 @@ invariant-loop-one l = record {
   same : fold (λ (now : DeadSettled) (one : DeadDone). parts_settle_dead_by (take_given one.number now.work.parts) now)
       (record { work = work_of l.args l.self; count = l.count }) (drop l.one-index l.done)
       ≡ parts_settle_dead l.done (work_of l.args l.initial.self);
-  attached : l.term.0 ≡ l.self.queue.dead.letters.attached;
+  attached : l.term.0 ≡ l.self.queue.dead.store.letters.attached;
   base : KeepsBase l.initial.self.queue l.self.queue;
 }

@@ -1,0 +1,27 @@
+use Rattle.std.proofs.Common.{List, [], ◌∷◌, ◌++◌, ap, ◌∙◌, refl}
+use Rattle.qq_base.specs.declared.ids.Index.{Index}
+use Rattle.qq_live.specs.Indices.{occurrences}
+use Rattle.qq_ready.specs.Queue.{Queue}
+use Rattle.qq_ledger.specs.Ledger.{ready_indices}
+use Rattle.qq_ledger.proofs.Balance.{balance-same, balance-more}
+use Rattle.qq_ledger.proofs.Parts.{front-more}
+use Rattle.qq_ledger.proofs.ready.Tracked+Ready.push_returned.Goals as goal
+
+pub invariant_of-self : goal.invariant_of-self
+invariant_of-self c =
+    balance-same c.self.invariant refl (λ i. refl) c.reserve.ensures.came c.reserve.ensures.gone
+
+pub invariant_of-self-in_err-push_returned : goal.invariant_of-self-in_err-push_returned
+invariant_of-self-in_err-push_returned c =
+    balance-same c.self.invariant (ap ready_indices c.push_returned.ensures.base)
+    (λ i. ap (λ (q : Queue). occurrences i (ready_indices q)) c.in_err-push_returned.ensures.err)
+    c.reserve.ensures.came c.reserve.ensures.gone
+
+pub invariant_of-self-2 : goal.invariant_of-self-2
+invariant_of-self-2 c =
+    balance-more (c.args.row.index ∷ []) c.self.invariant
+    (ap ready_indices c.push_returned.ensures.base)
+    (λ i. ap (λ (q : Queue). occurrences i (ready_indices q)) c.in_ok-push_returned.ensures.queue
+    ∙ front-more c.args.row c.self.inside.store.queue i)
+    (c.take_in.ensures.came ∙ ap (λ (xs : List Index). xs ++ c.args.row.index ∷ []) c.reserve.ensures.came)
+    (c.take_in.ensures.gone ∙ c.reserve.ensures.gone)
