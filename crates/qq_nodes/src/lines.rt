@@ -88,6 +88,31 @@ impl<D: NodeDisk> Nodes<D> {
         Ok(())
     }
 
+    /// A session's command at a queue. No pump follows it.
+    pub fn hand<T: Taker>(
+        &mut self,
+        alloc: Global,
+        queue: QueueId,
+        session: u64,
+        body: Unstamped,
+        told: &mut Told<T>,
+    ) -> Result<(), Memory>
+        requires serve { CanServe D.tells D.past self.old }
+        requires queue { IsQueueAt queue self.old }
+        requires session { 0 < session }
+        requires range { MayStamp body }
+        ensures ok { OnOk result (Served D.tells D.past D.faults
+            (λ (setup : Setup). IsGiven session body queue.0)
+            self.old self.new told.old told.new) }
+        ensures err { IfErr result (GaveUp D.tells D.past D.faults
+            (λ (setup : Setup). IsGiven session body queue.0) self.old self.new) }
+    {
+        if let Err(cause) = self.give_at(alloc, queue.0 as usize - 1, session, body, told) {
+            return Err(cause);
+        }
+        Ok(())
+    }
+
     /// A session's command at a queue, and a pump after it where one is to follow.
     pub fn give<T: Taker>(
         &mut self,
@@ -107,7 +132,7 @@ impl<D: NodeDisk> Nodes<D> {
         ensures err { IfErr result (GaveUp D.tells D.past D.faults
             (λ (setup : Setup). AndPumped setup (IsGiven session body queue.0)) self.old self.new) }
     {
-        if let Err(cause) = self.give_at(alloc, queue.0 as usize - 1, session, body, told) {
+        if let Err(cause) = self.hand(alloc, queue, session, body, told) {
             return Err(cause);
         }
         if let Err(cause) = self.pumped(alloc, told) {

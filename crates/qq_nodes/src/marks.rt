@@ -1,6 +1,7 @@
-//! Whether a queue has a leader, and which rows of its audit confirm a publish.
+//! Whether a queue has a leader and what that has, and which rows of the queue's audit confirm a publish.
 ghost use Rattle.std.specs.Prelude.{◌≡◌, ◌++◌, flat_map, OnOk};
 ghost use Rattle.qq_cluster.specs.Cluster.{Cluster, Setup};
+ghost use Rattle.qq_cluster.specs.Counts.{counts};
 ghost use Rattle.qq_cluster.specs.Queue.{audit_rows, has_leader};
 ghost use Rattle.qq_cluster_queue.specs.Marks.{mark_of};
 ghost use Rattle.qq_nodes.specs.Nodes.{CanServe, IsQueueAt, Stands};
@@ -19,6 +20,17 @@ impl<D: NodeDisk> Nodes<D> {
             result ≡ has_leader (c.queue queue.0) }
     {
         self.queues[queue.0 as usize - 1].leader().is_some()
+    }
+
+    /// How many messages are ready at a queue's leader, and how many of its consumers weren't cancelled. None exactly
+    /// where no member leads and takes commands.
+    pub fn counts(&self, queue: QueueId) -> Option<(u64, u32)>
+        requires serve { CanServe D.tells D.past self.now }
+        requires queue { IsQueueAt queue self.now }
+        ensures { (setup : Setup) (c : Cluster) → Stands D.tells D.past setup self.now c →
+            result ≡ counts (c.queue queue.0) }
+    {
+        self.queues[queue.0 as usize - 1].counts()
     }
 
     /// Adds 1 for each row of a queue's audit that says `confirmed` and not `again`, and 0 for each other one, in
