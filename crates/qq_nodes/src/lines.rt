@@ -1,19 +1,18 @@
 //! The lines of a script, as the nodes carry them out.
-ghost use Rattle.std.specs.Prelude.{◌≡◌, ◌<◌, ◌≤◌, ◌+◌, ◌-◌, true, length, map, All, IfErr, IsOkUnless, OnOk};
-ghost use Rattle.qq_base.specs.declared.ids.QueueId.{QueueId as Id};
+ghost use Rattle.std.specs.Prelude.{◌≡◌, ◌<◌, ◌+◌, ◌-◌, true, length, IfErr, IsOkUnless, OnOk};
 ghost use Rattle.qq_cluster.specs.Cluster.{Cluster, Setup, Alike, At, EndsEach, MutesEach};
-ghost use Rattle.qq_cluster.specs.Lines.{AndPumped, IsRouted, WhereUp};
+ghost use Rattle.qq_cluster.specs.Lines.{AndPumped, WhereUp};
 ghost use Rattle.qq_cluster.specs.Outcome.{Outcome};
-ghost use Rattle.qq_cluster.specs.Queue.{Attaches, Downs, Notices, Resends, Ticks};
-ghost use Rattle.qq_cluster.specs.Rules.{ForEach, Is, IsEnd, IsGiven, IsResend, IsSync, IsWrite, Tells, not_taken};
+ghost use Rattle.qq_cluster.specs.Queue.{Attaches, Downs, Notices, Ticks};
+ghost use Rattle.qq_cluster.specs.Rules.{ForEach, Is, IsEnd, IsGiven, IsSync, IsWrite, Tells, not_taken};
 ghost use Rattle.qq_cluster_queue.specs.Range.{MayStamp};
 ghost use Rattle.qq_nodes.specs.Active.{is_in};
-ghost use Rattle.qq_nodes.specs.Asking.{MayAsk, asked};
+ghost use Rattle.qq_nodes.specs.Asking.{asked};
 ghost use Rattle.qq_nodes.specs.Nodes.{CanServe, GaveUp, IsNodeAt, IsQueueAt, Served, Stands};
 
 use crate::asking::Ask;
 use crate::nodes::Nodes;
-use qq_base::{Duplicate, Memory, NodeId, QueueId};
+use qq_base::{Memory, NodeId, QueueId};
 use qq_cluster_queue::{Told, sessions_are_those_of_each_queue};
 use qq_disk::NodeDisk;
 use qq_entry::Unstamped;

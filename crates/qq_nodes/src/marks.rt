@@ -42,7 +42,8 @@ impl<D: NodeDisk> Nodes<D> {
         out: &mut Vec<u8>,
     ) -> Result<(), Memory>
         requires { IsQueueAt queue self.now }
-        ensures { OnOk result ((setup : Setup) (c : Cluster) → Stands D.tells D.past setup self.now c →
+        ensures { OnOk result ((setup : Setup) (c : Cluster) →
+            Stands D.tells D.past setup self.now c →
             out.new.items ≡ out.old.items ++ flat_map mark_of (audit_rows (c.queue queue.0))) }
     {
         self.queues[queue.0 as usize - 1].audit_marks(alloc, out)
