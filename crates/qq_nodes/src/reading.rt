@@ -1,13 +1,14 @@
-//! Whether a queue has a leader and what that has, and which rows of the queue's audit confirm a publish.
-ghost use Rattle.std.specs.Prelude.{◌≡◌, ◌++◌, flat_map, OnOk};
+//! What is read of a queue: whether it has a leader, what that has, and how many rows the audit has.
+ghost use Rattle.std.specs.Prelude.{◌≡◌, OnOk};
 ghost use Rattle.qq_cluster.specs.Cluster.{Cluster, Setup};
 ghost use Rattle.qq_cluster.specs.Counts.{counts};
 ghost use Rattle.qq_cluster.specs.Queue.{audit_rows, has_leader};
-ghost use Rattle.qq_cluster_queue.specs.Marks.{mark_of};
+ghost use Rattle.qq_cluster_queue.specs.Tally.{count_rows};
 ghost use Rattle.qq_nodes.specs.Nodes.{CanServe, IsQueueAt, Stands};
 
 use crate::nodes::Nodes;
 use qq_base::{Memory, QueueId};
+use qq_cluster_queue::Tally;
 use qq_disk::NodeDisk;
 use std::alloc::Global;
 
@@ -33,19 +34,13 @@ impl<D: NodeDisk> Nodes<D> {
         self.queues[queue.0 as usize - 1].counts()
     }
 
-    /// Adds 1 for each row of a queue's audit that says `confirmed` and not `again`, and 0 for each other one, in
-    /// order.
-    pub fn audit_marks(
-        &self,
-        alloc: Global,
-        queue: QueueId,
-        out: &mut Vec<u8>,
-    ) -> Result<(), Memory>
+    /// The rows of a queue's audit are counted too.
+    pub fn count_rows(&self, alloc: Global, queue: QueueId, tally: &mut Tally) -> Result<(), Memory>
         requires { IsQueueAt queue self.now }
         ensures { OnOk result ((setup : Setup) (c : Cluster) →
             Stands D.tells D.past setup self.now c →
-            out.new.items ≡ out.old.items ++ flat_map mark_of (audit_rows (c.queue queue.0))) }
+            tally.new ≡ count_rows (audit_rows (c.queue queue.0)) tally.old) }
     {
-        self.queues[queue.0 as usize - 1].audit_marks(alloc, out)
+        self.queues[queue.0 as usize - 1].count_rows(alloc, tally)
     }
 }
