@@ -36,27 +36,29 @@ is-said {setup} {c} {Holds} {a} {b} {before} events s =
     Serves setup c (λ (m : List ClusterEvent). m ≡ events) Holds a b before (outcome_after setup c l before))
     s.did.means (serves-from before s)
 
-pub served-join : {D : Type 0} {tells : D → Bool} {past : D → List Disk} {faults : D → ℕ} {First Second : Ruling}
-    {old mid new : Held D} {before middle other later : Outcome}
-    → Served tells past faults First old mid before middle → Served tells past faults Second mid new other later
-    → (setup : Setup) (c : Cluster) → IsReached setup c → Stands tells past setup old c
-    → Joined tells past faults First Second old new before middle other later setup c
-served-join {tells = tells} {past = past} {faults = faults} {First = First} {Second = Second} {old = old} {mid = mid} {new = new} {before = before} {middle = middle} {other = other} {later = later} first second setup c r st =
-    let s = first.serves setup c r st in
-    let d : Cluster = cluster_after c s.did.events in
-    let t = second.serves setup d (reached-after setup c s.did.events r) s.did.stands in
-    record {
-      early = s.did.events;
-      late = t.did.events;
-      first = s.did.means;
-      second = t.did.means;
-      says = s.did.says;
-      sees = s.did.sees;
-      then_says = t.did.says;
-      then_sees = t.did.sees;
-      serves = is-said (s.did.events ++ t.did.events)
-          (serves-both setup c (First setup c) (Second setup d) (λ (l : List ClusterEvent). l ≡ s.did.events ++ t.did.events)
-          (Stands tells past setup mid) (Stands tells past setup new) (seen tells past faults old)
-          (seen tells past faults mid) (seen tells past faults new) before middle
-          (outcome_after setup d t.did.events middle) s (serves-from middle t) refl);
-    }
+module _ {D : Type 0} {tells : D → Bool} {past : D → List Disk} {faults : D → ℕ} {First Second : Ruling}
+    {old mid new : Held D} {before middle other later : Outcome} where
+  pub served-join : Served tells past faults First old mid before middle
+      → Served tells past faults Second mid new other later → (setup : Setup) (c : Cluster) → IsReached setup c
+      → Stands tells past setup old c
+      → Joined tells past faults First Second old new before middle other later setup c
+  served-join first second setup c r st =
+      let s = first.serves setup c r st in
+      let d : Cluster = cluster_after c s.did.events in
+      let t = second.serves setup d (reached-after setup c s.did.events r) s.did.stands in
+      let events : List ClusterEvent = s.did.events ++ t.did.events in
+      record {
+        early = s.did.events;
+        late = t.did.events;
+        first = s.did.means;
+        second = t.did.means;
+        says = s.did.says;
+        sees = s.did.sees;
+        then_says = t.did.says;
+        then_sees = t.did.sees;
+        serves = is-said events
+            (serves-both setup c (First setup c) (Second setup d) (λ (l : List ClusterEvent). l ≡ events)
+            (Stands tells past setup mid) (Stands tells past setup new) (seen tells past faults old)
+            (seen tells past faults mid) (seen tells past faults new) before middle
+            (outcome_after setup d t.did.events middle) s (serves-from middle t) refl);
+      }
