@@ -162,7 +162,7 @@ module _ {D : Type 0} {facts : DiskFacts D} where
   -- what a queue tells of itself is so of the one at its place
   pub told-at : (Holds : Queue → Type 0) (held : Held D) (queue : QueueId) (x : ClusterQueue) → IsQueueAt queue held
       → slice_get held.queues.items (queue.0 - 1) ≡ Some x → OfItsQueue x Holds
-      → (setup : Setup) (c : Cluster) → Stands tells past setup held c → Holds (c.queue queue.0)
+      → (setup : Setup) (c : Cluster) → Stands facts setup held c → Holds (c.queue queue.0)
   told-at Holds held queue x is here own setup c st =
       own (standings held.sessions) (c.queue queue.0) (queue-was setup c held queue x is here st).stands
 

@@ -96,14 +96,14 @@ impl<D: NodeDisk> Nodes<D> {
         body: Unstamped,
         told: &mut Told<T>,
     ) -> Result<(), Memory>
-        requires serve { CanServe D.tells D.past self.old }
+        requires serve { CanServe D.facts self.old }
         requires queue { IsQueueAt queue self.old }
         requires session { 0 < session }
         requires range { MayStamp body }
-        ensures ok { OnOk result (Served D.tells D.past D.faults
+        ensures ok { OnOk result (Served D.facts
             (λ (setup : Setup). IsGiven session body queue.0)
             self.old self.new told.old told.new) }
-        ensures err { IfErr result (GaveUp D.tells D.past D.faults
+        ensures err { IfErr result (GaveUp D.facts
             (λ (setup : Setup). IsGiven session body queue.0) self.old self.new) }
     {
         if let Err(cause) = self.give_at(alloc, queue.0 as usize - 1, session, body, told) {
