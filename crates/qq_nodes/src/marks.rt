@@ -13,9 +13,9 @@ use std::alloc::Global;
 impl<D: NodeDisk> Nodes<D> {
     /// Whether a queue has a member that leads and takes commands.
     pub fn has_leader(&self, queue: QueueId) -> bool
-        requires serve { CanServe D.tells D.past self.now }
+        requires serve { CanServe D.facts self.now }
         requires queue { IsQueueAt queue self.now }
-        ensures { (setup : Setup) (c : Cluster) → Stands D.tells D.past setup self.now c →
+        ensures { (setup : Setup) (c : Cluster) → Stands D.facts setup self.now c →
             result ≡ has_leader (c.queue queue.0) }
     {
         self.queues[queue.0 as usize - 1].leader().is_some()
@@ -30,7 +30,7 @@ impl<D: NodeDisk> Nodes<D> {
         out: &mut Vec<u8>,
     ) -> Result<(), Memory>
         requires { IsQueueAt queue self.now }
-        ensures { OnOk result ((setup : Setup) (c : Cluster) → Stands D.tells D.past setup self.now c →
+        ensures { OnOk result ((setup : Setup) (c : Cluster) → Stands D.facts setup self.now c →
             out.new.items ≡ out.old.items ++ flat_map mark_of (audit_rows (c.queue queue.0))) }
     {
         self.queues[queue.0 as usize - 1].audit_marks(alloc, out)
