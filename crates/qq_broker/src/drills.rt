@@ -1,17 +1,16 @@
 //! A drill is run.
-ghost use Rattle.std.specs.Prelude.{◌≡◌, ◌≤◌, ◌++◌, List, ℕ, None, Option, IfErr, IfOk, IsOkUnless, OnOk, count_by, flat_map, length, nat_eq};
-ghost use Rattle.std.specs.Io.KnownBytes.{Appends};
+ghost use Rattle.std.specs.Prelude.{◌≡◌, ◌≤◌, ◌++◌, List, ℕ, None, IfErr, IfOk, IsOkUnless, OnOk, count_by, flat_map, length, nat_eq};
 ghost use Rattle.sha2.specs.Hashers.{Holds256};
-ghost use Rattle.qq_base.specs.Causes.{Rose};
 ghost use Rattle.qq_cluster.specs.Texts.{audits_text};
 ghost use Rattle.qq_cluster_queue.specs.Marks.{mark_of};
 ghost use Rattle.qq_cluster_run.specs.Drilling.{Known, all_rows, drill_text, first_known, parts};
-ghost use Rattle.qq_cluster_run.specs.Drills.{DrillEnds, HasDrilled};
+ghost use Rattle.qq_cluster_run.specs.Drills.{DrillEnds, HasDrilled, HasSummary};
 ghost use Rattle.qq_cluster_run.specs.Playing.{Knows};
 ghost use Rattle.qq_cluster_run.specs.Serving.{Run, cluster_in, setup_in};
+ghost use Rattle.qq_ports.specs.Streams.{SourceState, beside, sink_state};
 ghost use Rattle.qq_setup.specs.Setup.{state_of};
 ghost use Rattle.qq_broker.specs.Drilling.{PartsStop, Plays};
-ghost use Rattle.qq_broker.specs.Drills.{HasPlayed, HasSummary};
+ghost use Rattle.qq_broker.specs.Drills.{HasPlayed};
 ghost use Rattle.qq_broker.specs.Lives.{Giving, under};
 ghost use Rattle.qq_broker.specs.Nodes.{Had, Holds, MayRun, Meets};
 
@@ -106,8 +105,8 @@ fn finish<D: NodeDisk>(
 // The line of a drill is written, or that there was no memory for it.
 fn write_summary<O: Sink>(output: &mut O, line: Result<Vec<u8>, Memory>) -> u8
     ensures written { (text : List ℕ) → IfOk line (λ line. line.items ≡ text) →
-        HasSummary result text (O.written output.old) (O.written output.new)
-        (Rose (O.faults output.old) (O.faults output.new)) }
+        HasSummary result text (sink_state O.written O.faults output.old)
+        (sink_state O.written O.faults output.new) }
     ensures later { O.faults output.old ≤ O.faults output.new }
 {
     match line {
@@ -138,8 +137,7 @@ fn serve_drill<Y: Yard, T: Taker, O: Sink>(
         Plays given Y.Disk.facts setup.now run nodes.old told.old play k →
         HasPlayed given Y.Disk.facts (Y.faults yard.old) (Y.faults yard.new) setup.now run
         parts.now k number result
-        (O.written output.old) (O.written output.new)
-        (Rose (O.faults output.old) (O.faults output.new)) }
+        (sink_state O.written O.faults output.old) (sink_state O.written O.faults output.new) }
     ensures sink_later { O.faults output.old ≤ O.faults output.new }
     ensures yard_later { Y.faults yard.old ≤ Y.faults yard.new }
 {
@@ -166,9 +164,8 @@ fn open_drill<Y: Yard, T: Taker, O: Sink>(
     requires may { MayRun setup.now }
     requires parts { parts.now ≡ parts setup.now.nodes }
     requires knows { Knows play (first_known number setup.now.nodes) }
-    ensures ends { (left : Option (List ℕ)) → HasDrilled result number setup.now left left
-        (O.written output.old) (O.written output.new)
-        (Rose (O.faults output.old) (O.faults output.new))
+    ensures ends { (source : SourceState) → HasDrilled result number setup.now
+        (beside source O.written O.faults output.old) (beside source O.written O.faults output.new)
         (Meets (under Y.is_given None) Y.Disk.facts (Y.faults yard.old) (Y.faults yard.new))
         (Had (under Y.is_given None) Y.Disk.facts) }
     ensures sink_later { O.faults output.old ≤ O.faults output.new }
@@ -204,9 +201,8 @@ fn begin_drill<Y: Yard, T: Taker, O: Sink>(
     output: &mut O,
 ) -> u8
     requires may { MayRun setup.now }
-    ensures ends { (left : Option (List ℕ)) → HasDrilled result number setup.now left left
-        (O.written output.old) (O.written output.new)
-        (Rose (O.faults output.old) (O.faults output.new))
+    ensures ends { (source : SourceState) → HasDrilled result number setup.now
+        (beside source O.written O.faults output.old) (beside source O.written O.faults output.new)
         (Meets (under Y.is_given None) Y.Disk.facts (Y.faults yard.old) (Y.faults yard.new))
         (Had (under Y.is_given None) Y.Disk.facts) }
     ensures sink_later { O.faults output.old ≤ O.faults output.new }
@@ -233,9 +229,8 @@ pub(crate) fn run_drill<Y: Yard, T: Taker, O: Sink>(
     yard: &mut Y,
     output: &mut O,
 ) -> u8
-    ensures ends { (left : Option (List ℕ)) → DrillEnds result number nodes left left
-        (O.written output.old) (O.written output.new)
-        (Rose (O.faults output.old) (O.faults output.new))
+    ensures ends { (source : SourceState) → DrillEnds result number nodes
+        (beside source O.written O.faults output.old) (beside source O.written O.faults output.new)
         (Meets (under Y.is_given None) Y.Disk.facts (Y.faults yard.old) (Y.faults yard.new))
         (Had (under Y.is_given None) Y.Disk.facts) }
     ensures sink_later { O.faults output.old ≤ O.faults output.new }

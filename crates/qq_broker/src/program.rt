@@ -1,18 +1,14 @@
-ghost use Rattle.std.specs.Prelude.{◌≡◌, ◌⊎◌, ◌≤◌, ◌<◌, ◌++◌, ℕ, List, [], None, Some, map, string_bytes, IfOk, IfErr, IfSome, OnOk, OnErr};
-ghost use Rattle.std.specs.Io.KnownBytes.{Appends};
-ghost use Rattle.qq_base.specs.Causes.{Rose};
-ghost use Rattle.qq_cluster.specs.Texts.{audits_text};
+ghost use Rattle.std.specs.Prelude.{◌≡◌, ◌≤◌, ◌<◌, [], None, Some, map, string_bytes, IfOk, IfErr, OnOk};
 ghost use Rattle.qq_cluster_run.specs.Answers.{Answers, HasAnswerCause, IsServedToEnd};
-ghost use Rattle.qq_cluster_run.specs.Endings.{no_memory};
-ghost use Rattle.qq_cluster_run.specs.Pieces.{HasSomePrefix, HasPrintCause};
-ghost use Rattle.qq_cluster_run.specs.Runs.{HasStopped, IsBehindMade, IsCutInMade, IsDone, IsUnopened, Closes, HasRun, RunEnds};
+ghost use Rattle.qq_cluster_run.specs.Runs.{HasStopped, IsDone, Closes, HasBegun, HasRun, RunEnds};
 ghost use Rattle.qq_cluster_run.specs.Service.{HasOpened};
-ghost use Rattle.qq_cluster_run.specs.Serving.{Run, cluster_in, setup_in};
+ghost use Rattle.qq_cluster_run.specs.Serving.{Run};
 ghost use Rattle.qq_cluster_run.specs.declared.status.TheConstants.{DONE};
+ghost use Rattle.qq_ports.specs.Streams.{AreLater, Writes, shelf_state, sink_state, streams};
 ghost use Rattle.qq_words.specs.Words.{read_words};
 ghost use Rattle.qq_broker.specs.Lives.{Giving, under};
 ghost use Rattle.qq_broker.specs.Nodes.{Had, Holds, MayRun};
-ghost use Rattle.qq_broker.specs.Program.{ProgramEnds};
+ghost use Rattle.qq_broker.specs.Program.{ProgramEnds, outside};
 ghost use Rattle.qq_broker.specs.Takers.{HoldsAll, IsRefusedBy, RunClaims, RunHad, RunMeets};
 ghost use Rattle.qq_taker.specs.Takers.{Takers};
 
@@ -92,20 +88,19 @@ fn serve_lines<Y: Yard, T: Taker, I: Source, O: Sink>(
         (record { text = []; takers = first }) told.old →
         OnOk result (IsServedToEnd
         (RunHad given Y.Disk.facts first) setup.now
-        (HoldsAll given Y.Disk.facts setup.now first nodes.new told.new.takers) (I.left input.old)
-        (I.left input.new)
-        (O.written output.old) (O.written output.new)) }
+        (HoldsAll given Y.Disk.facts setup.now first nodes.new told.new.takers)
+        (streams I.left I.faults O.written O.faults input.old output.old)
+        (streams I.left I.faults O.written O.faults input.new output.new)) }
     ensures cause { (given : Giving Y.Disk) (first : Takers) →
         HasOpened (Had given Y.Disk.facts) setup.now (Holds given Y.Disk.facts setup.now nodes.old)
         (record { text = []; takers = first }) told.old →
-        IfErr result (λ stop. HasStopped stop setup.now (I.left input.old)
-        (I.left input.new) (O.written output.old) (O.written output.new)
-        (Rose (I.faults input.old) (I.faults input.new))
-        (Rose (O.faults output.old) (O.faults output.new))
+        IfErr result (λ stop. HasStopped stop setup.now
+        (streams I.left I.faults O.written O.faults input.old output.old)
+        (streams I.left I.faults O.written O.faults input.new output.new)
         (RunMeets given Y.Disk.facts first (Y.faults yard.old) (Y.faults yard.new))
         (RunClaims given Y.Disk.facts first told.new.takers) []) }
-    ensures source_later { I.faults input.old ≤ I.faults input.new }
-    ensures sink_later { O.faults output.old ≤ O.faults output.new }
+    ensures later { AreLater (streams I.left I.faults O.written O.faults input.old output.old)
+        (streams I.left I.faults O.written O.faults input.new output.new) }
     ensures yard_later { Y.faults yard.old ≤ Y.faults yard.new }
 {
     lines_law();
@@ -151,18 +146,18 @@ fn serve_script<Y: Yard, T: Taker, I: Source, O: Sink>(
         HasOpened (Had given Y.Disk.facts) setup.now (Holds given Y.Disk.facts setup.now nodes.old)
         (record { text = []; takers = first }) told.old →
         OnOk result (IsDone DONE (RunClaims given Y.Disk.facts first told.new.takers) setup.now
-        (I.left input.old) (I.left input.new) (O.written output.old) (O.written output.new)) }
+        (streams I.left I.faults O.written O.faults input.old output.old)
+        (streams I.left I.faults O.written O.faults input.new output.new)) }
     ensures cause { (given : Giving Y.Disk) (first : Takers) →
         HasOpened (Had given Y.Disk.facts) setup.now (Holds given Y.Disk.facts setup.now nodes.old)
         (record { text = []; takers = first }) told.old →
-        IfErr result (λ stop. HasStopped stop setup.now (I.left input.old)
-        (I.left input.new) (O.written output.old) (O.written output.new)
-        (Rose (I.faults input.old) (I.faults input.new))
-        (Rose (O.faults output.old) (O.faults output.new))
+        IfErr result (λ stop. HasStopped stop setup.now
+        (streams I.left I.faults O.written O.faults input.old output.old)
+        (streams I.left I.faults O.written O.faults input.new output.new)
         (RunMeets given Y.Disk.facts first (Y.faults yard.old) (Y.faults yard.new))
         (RunClaims given Y.Disk.facts first told.new.takers) []) }
-    ensures source_later { I.faults input.old ≤ I.faults input.new }
-    ensures sink_later { O.faults output.old ≤ O.faults output.new }
+    ensures later { AreLater (streams I.left I.faults O.written O.faults input.old output.old)
+        (streams I.left I.faults O.written O.faults input.new output.new) }
     ensures yard_later { Y.faults yard.old ≤ Y.faults yard.new }
 {
     match serve_lines(alloc, setup, nodes, yard, told, input, output) {
@@ -180,8 +175,9 @@ fn serve_script<Y: Yard, T: Taker, I: Source, O: Sink>(
 
 /// Writes the closing line, and says with which status the run ends.
 pub fn close<O: Sink>(output: &mut O, ending: Ending) -> u8
-    ensures closes { Closes result ending (Rose (O.faults output.old) (O.faults output.new))
-        (λ more. Appends (O.written output.old) (O.written output.new) more) }
+    ensures closes { Closes result ending (sink_state O.written O.faults output.old)
+        (sink_state O.written O.faults output.new) (Writes (sink_state O.written O.faults output.old)
+        (sink_state O.written O.faults output.new)) }
     ensures later { O.faults output.old ≤ O.faults output.new }
 {
     match ending.write(output) {
@@ -202,15 +198,14 @@ fn open_told<Y: Yard, T: Taker, I: Source, O: Sink>(
 ) -> u8
     requires may { MayRun setup.now }
     requires empty { told.old.text ≡ [] }
-    ensures ends { HasRun result setup.now (I.left input.old) (I.left input.new)
-        (O.written output.old) (O.written output.new)
-        (Rose (I.faults input.old) (I.faults input.new))
-        (Rose (O.faults output.old) (O.faults output.new))
+    ensures ends { HasRun result setup.now
+        (streams I.left I.faults O.written O.faults input.old output.old)
+        (streams I.left I.faults O.written O.faults input.new output.new)
         (RunMeets (under Y.is_given root.now) Y.Disk.facts told.old.takers (Y.faults yard.old)
         (Y.faults yard.new))
         (RunClaims (under Y.is_given root.now) Y.Disk.facts told.old.takers told.new.takers) }
-    ensures source_later { I.faults input.old ≤ I.faults input.new }
-    ensures sink_later { O.faults output.old ≤ O.faults output.new }
+    ensures later { AreLater (streams I.left I.faults O.written O.faults input.old output.old)
+        (streams I.left I.faults O.written O.faults input.new output.new) }
     ensures yard_later { Y.faults yard.old ≤ Y.faults yard.new }
 {
     let mut nodes = match open(alloc, setup, root, yard, told) {
@@ -234,15 +229,14 @@ fn open_script<Y: Yard, T: Taker, I: Source, O: Sink>(
     output: &mut O,
 ) -> u8
     requires { MayRun setup.now }
-    ensures ends { HasRun result setup.now (I.left input.old) (I.left input.new)
-        (O.written output.old) (O.written output.new)
-        (Rose (I.faults input.old) (I.faults input.new))
-        (Rose (O.faults output.old) (O.faults output.new))
+    ensures ends { HasRun result setup.now
+        (streams I.left I.faults O.written O.faults input.old output.old)
+        (streams I.left I.faults O.written O.faults input.new output.new)
         (RunMeets (under Y.is_given root.now) Y.Disk.facts takers.old (Y.faults yard.old)
         (Y.faults yard.new))
         (RunClaims (under Y.is_given root.now) Y.Disk.facts takers.old takers.new) }
-    ensures source_later { I.faults input.old ≤ I.faults input.new }
-    ensures sink_later { O.faults output.old ≤ O.faults output.new }
+    ensures later { AreLater (streams I.left I.faults O.written O.faults input.old output.old)
+        (streams I.left I.faults O.written O.faults input.new output.new) }
     ensures yard_later { Y.faults yard.old ≤ Y.faults yard.new }
 {
     let mut text = Vec::new(alloc);
@@ -263,21 +257,14 @@ fn begin_script<Y: Yard, T: Taker, I: Source, O: Sink>(
     output: &mut O,
 ) -> u8
     requires { MayRun setup.now }
-    ensures ends { IsUnopened result (I.left input.old) (I.left input.new)
-        (O.written output.old) (O.written output.new)
-        (Rose (O.faults output.old) (O.faults output.new)) (λ ending. ending ≡ no_memory)
-        ⊎ (IsCutInMade result setup.now (I.left input.old) (I.left input.new)
-        (O.written output.old) (O.written output.new)
-        (Rose (O.faults output.old) (O.faults output.new))
-        ⊎ IsBehindMade result setup.now (I.left input.old) (I.left input.new)
-        (O.written output.old) (O.written output.new)
-        (Rose (I.faults input.old) (I.faults input.new))
-        (Rose (O.faults output.old) (O.faults output.new))
+    ensures ends { HasBegun result setup.now
+        (streams I.left I.faults O.written O.faults input.old output.old)
+        (streams I.left I.faults O.written O.faults input.new output.new)
         (RunMeets (under Y.is_given root.now) Y.Disk.facts takers.old (Y.faults yard.old)
         (Y.faults yard.new))
-        (RunClaims (under Y.is_given root.now) Y.Disk.facts takers.old takers.new)) }
-    ensures source_later { I.faults input.old ≤ I.faults input.new }
-    ensures sink_later { O.faults output.old ≤ O.faults output.new }
+        (RunClaims (under Y.is_given root.now) Y.Disk.facts takers.old takers.new) }
+    ensures later { AreLater (streams I.left I.faults O.written O.faults input.old output.old)
+        (streams I.left I.faults O.written O.faults input.new output.new) }
     ensures yard_later { Y.faults yard.old ≤ Y.faults yard.new }
 {
     match write_made(alloc, &setup.made, output) {
@@ -297,16 +284,15 @@ fn run_script<S: Shelf, Y: Yard, T: Taker, I: Source, O: Sink>(
     yard: &mut Y,
     takers: &mut Desk<T>,
 ) -> u8
-    ensures ends { RunEnds result (Some options.now) (S.files shelf.old)
-        (I.left input.old) (I.left input.new) (O.written output.old) (O.written output.new)
-        (Rose (I.faults input.old) (I.faults input.new))
-        (Rose (S.faults shelf.old) (S.faults shelf.new))
-        (Rose (O.faults output.old) (O.faults output.new))
+    ensures ends { RunEnds result (Some options.now)
+        (shelf_state S.files S.faults shelf.old) (shelf_state S.files S.faults shelf.new)
+        (streams I.left I.faults O.written O.faults input.old output.old)
+        (streams I.left I.faults O.written O.faults input.new output.new)
         (RunMeets (under Y.is_given options.now.root) Y.Disk.facts takers.old (Y.faults yard.old)
         (Y.faults yard.new))
         (RunClaims (under Y.is_given options.now.root) Y.Disk.facts takers.old takers.new) }
-    ensures source_later { I.faults input.old ≤ I.faults input.new }
-    ensures sink_later { O.faults output.old ≤ O.faults output.new }
+    ensures later { AreLater (streams I.left I.faults O.written O.faults input.old output.old)
+        (streams I.left I.faults O.written O.faults input.new output.new) }
     ensures shelf_later { S.faults shelf.old ≤ S.faults shelf.new }
     ensures yard_later { Y.faults yard.old ≤ Y.faults yard.new }
 {
@@ -326,15 +312,13 @@ fn run_command<S: Shelf, Y: Yard, T: Taker, I: Source, O: Sink>(
     yard: &mut Y,
     takers: &mut Desk<T>,
 ) -> u8
-    ensures ends { ProgramEnds Y.is_given Y.Disk.facts result (Some command.now) (S.files shelf.old)
-        (I.left input.old) (I.left input.new)
-        (O.written output.old) (O.written output.new)
-        (Rose (I.faults input.old) (I.faults input.new))
-        (Rose (S.faults shelf.old) (S.faults shelf.new))
-        (Rose (O.faults output.old) (O.faults output.new))
-        (Y.faults yard.old) (Y.faults yard.new) takers.old takers.new }
-    ensures source_later { I.faults input.old ≤ I.faults input.new }
-    ensures sink_later { O.faults output.old ≤ O.faults output.new }
+    ensures ends { ProgramEnds Y.is_given Y.Disk.facts result (Some command.now)
+        (outside (streams I.left I.faults O.written O.faults input.old output.old)
+        (shelf_state S.files S.faults shelf.old) (Y.faults yard.old) takers.old)
+        (outside (streams I.left I.faults O.written O.faults input.new output.new)
+        (shelf_state S.files S.faults shelf.new) (Y.faults yard.new) takers.new) }
+    ensures later { AreLater (streams I.left I.faults O.written O.faults input.old output.old)
+        (streams I.left I.faults O.written O.faults input.new output.new) }
     ensures shelf_later { S.faults shelf.old ≤ S.faults shelf.new }
     ensures yard_later { Y.faults yard.old ≤ Y.faults yard.new }
 {
@@ -363,7 +347,7 @@ fn run_command<S: Shelf, Y: Yard, T: Taker, I: Source, O: Sink>(
 ///   gave to a consumer was free then, and once all is served, or the next line is refused, the takers have seen what the
 ///   events show (`RunClaims`). Each trouble was met in the yard, in such a disk, in the nodes or with the takers
 ///   (`RunMeets`). A dump reads no input and changes nothing on the disk.
-/// - `source_later`, `sink_later`, `shelf_later`, `yard_later`: the counts of faults don't fall.
+/// - `later`, `shelf_later`, `yard_later`: the counts of faults don't fall.
 pub fn run<R: AllocGlobal, I: Source, O: Sink, S: Shelf, Y: Yard, T: Taker>(
     rt: &R,
     words: &[String],
@@ -374,14 +358,13 @@ pub fn run<R: AllocGlobal, I: Source, O: Sink, S: Shelf, Y: Yard, T: Taker>(
     takers: &mut Desk<T>,
 ) -> u8
     ensures ends { ProgramEnds Y.is_given Y.Disk.facts result
-        (read_words (map string_bytes words.now)) (S.files shelf.old)
-        (I.left input.old) (I.left input.new) (O.written output.old) (O.written output.new)
-        (Rose (I.faults input.old) (I.faults input.new))
-        (Rose (S.faults shelf.old) (S.faults shelf.new))
-        (Rose (O.faults output.old) (O.faults output.new))
-        (Y.faults yard.old) (Y.faults yard.new) takers.old takers.new }
-    ensures source_later { I.faults input.old ≤ I.faults input.new }
-    ensures sink_later { O.faults output.old ≤ O.faults output.new }
+        (read_words (map string_bytes words.now))
+        (outside (streams I.left I.faults O.written O.faults input.old output.old)
+        (shelf_state S.files S.faults shelf.old) (Y.faults yard.old) takers.old)
+        (outside (streams I.left I.faults O.written O.faults input.new output.new)
+        (shelf_state S.files S.faults shelf.new) (Y.faults yard.new) takers.new) }
+    ensures later { AreLater (streams I.left I.faults O.written O.faults input.old output.old)
+        (streams I.left I.faults O.written O.faults input.new output.new) }
     ensures shelf_later { S.faults shelf.old ≤ S.faults shelf.new }
     ensures yard_later { Y.faults yard.old ≤ Y.faults yard.new }
 {
