@@ -20,6 +20,7 @@ mod Gone
 pub mod Looped
 pub mod Closed
 pub mod DrillAudits
+pub mod DrillEnds
 pub mod DrillLoops
 pub mod DrillStops
 pub mod Drilled
