@@ -20,8 +20,10 @@ mod Gone
 pub mod Looped
 pub mod Closed
 pub mod DrillAudits
+pub mod DrillEnds
 pub mod DrillLoops
 pub mod DrillStops
+pub mod DrillTold
 pub mod Drilled
 pub mod Dumped
 pub mod Opened

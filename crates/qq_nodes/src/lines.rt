@@ -100,11 +100,10 @@ impl<D: NodeDisk> Nodes<D> {
         requires queue { IsQueueAt queue self.old }
         requires session { 0 < session }
         requires range { MayStamp body }
-        ensures ok { OnOk result (Served D.facts
-            (λ (setup : Setup). IsGiven session body queue.0)
+        ensures ok { OnOk result (Served D.facts (λ (setup : Setup). IsGiven session body queue.0)
             self.old self.new told.old told.new) }
-        ensures err { IfErr result (GaveUp D.facts
-            (λ (setup : Setup). IsGiven session body queue.0) self.old self.new) }
+        ensures err { IfErr result (GaveUp D.facts (λ (setup : Setup). IsGiven session body queue.0)
+            self.old self.new) }
     {
         if let Err(cause) = self.give_at(alloc, queue.0 as usize - 1, session, body, told) {
             return Err(cause);
