@@ -7,6 +7,7 @@ pub mod Texts
 pub mod Rules
 pub mod Lines
 pub mod Serving
+pub mod Confirmed
 pub mod Laws
 pub mod ClusterLaws
 pub mod Example

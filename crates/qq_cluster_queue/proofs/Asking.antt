@@ -245,12 +245,12 @@ fetched-is known committed reads ends sessions d q session k s st leads up =
 -- ---- what the call does
 
 -- the member whose machine it is
-record HasMachine (o : Option Member) (m : MachineQueue) : Type 0 where
-  member : Member
-  up : o ≡ Some member
-  own : member.machine ≡ m
+pub record HasMachine (o : Option Member) (m : MachineQueue) : Type 0 where
+  pub member : Member
+  pub up : o ≡ Some member
+  pub own : member.machine ≡ m
 
-machine-of : (o : Option Member) (m : MachineQueue) → Some m ≡ machine_at o → HasMachine o m
+pub machine-of : (o : Option Member) (m : MachineQueue) → Some m ≡ machine_at o → HasMachine o m
 machine-of None m is = absurd (let e : ◌≡◌ {A = Option MachineQueue} (Some m) None = is in cc)
 machine-of (Some s) m is = (let own : s.machine ≡ m = cc in record { member = s; up = refl; own = own })
 

@@ -34,6 +34,16 @@ drop-next : (es : List Entry) (i : ℕ) (e : Entry) → i < length es → e ≡ 
     → drop i es ≡ e ∷ drop (i + 1) es
 drop-next es i e lt is = drop_more es i e lt ∙ ap (λ (x : Entry). x ∷ drop (i + 1) es) (sym is)
 
+-- its row stands first of those that are left
+pub row-next : (s : State) (es : List Entry) (i : ℕ) (e : Entry) (row : AuditRow) → i < length es → e ≡ get_or es i e
+    → row ≡ row_of (next_index (state_after s (take i es))) e (next_step (state_after s (take i es)) e)
+    → row ∷ audit_of (state_after s (take (i + 1) es)) (drop (i + 1) es) ≡ audit_of (state_after s (take i es)) (drop i es)
+row-next s es i e row lt at is =
+    let t : State = state_after s (take i es) in
+    ap (λ (u : State). row ∷ audit_of u (drop (i + 1) es)) (state-next s es i e lt at)
+    ∙ ap (λ (r : AuditRow). r ∷ audit_of (next_step t e).state (drop (i + 1) es)) is
+    ∙ ap (audit_of t) (sym (drop-next es i e lt at))
+
 -- its row was added, and those of the others are left
 pub rows-next : (text : AuditRow → List ℕ) (s : State) (es : List Entry) (i : ℕ) (e : Entry) (row : AuditRow)
     (out next all : List ℕ) → i < length es → e ≡ get_or es i e
@@ -42,14 +52,10 @@ pub rows-next : (text : AuditRow → List ℕ) (s : State) (es : List Entry) (i 
     → out ++ flat_map text (audit_of (state_after s (take i es)) (drop i es)) ≡ all
     → next ++ flat_map text (audit_of (state_after s (take (i + 1) es)) (drop (i + 1) es)) ≡ all
 rows-next text s es i e row out next all lt at is added said =
-    let t : State = state_after s (take i es) in
-    let rest : List AuditRow = audit_of (next_step t e).state (drop (i + 1) es) in
-    let one : row ∷ rest ≡ audit_of t (drop i es) =
-    ap (λ (r : AuditRow). r ∷ rest) is ∙ ap (audit_of t) (sym (drop-next es i e lt at)) in
-    ap (λ (u : State). next ++ flat_map text (audit_of u (drop (i + 1) es))) (state-next s es i e lt at)
-    ∙ ap (λ (l : List ℕ). l ++ flat_map text rest) added
+    let rest : List AuditRow = audit_of (state_after s (take (i + 1) es)) (drop (i + 1) es) in
+    ap (λ (l : List ℕ). l ++ flat_map text rest) added
     ∙ append_assoc out (text row) (flat_map text rest)
-    ∙ ap (λ (l : List AuditRow). out ++ flat_map text l) one
+    ∙ ap (λ (l : List AuditRow). out ++ flat_map text l) (row-next s es i e row lt at is)
     ∙ said
 
 not-within : (s : State) (xs ys : List Entry) (e : Entry)
@@ -77,6 +83,13 @@ spent-at s es i e end (Spent number) lt at because = (
 pub spent-want : (fault : Memory) (end : ℕ) (P : Type 0) → fault ≡ Want → SpentOnlyWhere fault end P
 spent-want fault end P is = subst (λ (e : Memory). SpentOnlyWhere e end P) (sym is) tt
 
+-- the rows of a queue's audit are those of the group's entries
+pub rows-are : (d : ClusterQueue) (entries : List Entry) → entries ≡ d.group.audit.items
+    → OfItsQueue d (λ q. audit_rows q ≡ audit_of (empty_queue d.args) entries)
+rows-are d entries same = λ sessions q st.
+    ap (λ (args : QueueArgs). audit_of (empty_queue args) q.group.audit) st.args
+    ∙ ap (audit_of (empty_queue d.args)) (st.group.represents.audit ∙ sym same)
+
 -- the head of an audit, and then its rows
 pub audit-shown : (text : AuditRow → List ℕ) (head_of : ℕ → List ℕ) (whole : List AuditRow → List ℕ)
     → ((rows : List AuditRow) → whole rows ≡ head_of (length rows) ++ flat_map text rows)
@@ -86,9 +99,7 @@ pub audit-shown : (text : AuditRow → List ℕ) (head_of : ℕ → List ℕ) (w
     → OfItsQueue d (λ q. after ≡ before ++ whole (audit_rows q))
 audit-shown text head_of whole parts d entries before head after count same counted begun added = λ sessions q st.
     let rows : List AuditRow = audit_of (empty_queue d.args) entries in
-    let are : audit_rows q ≡ rows =
-    ap (λ (args : QueueArgs). audit_of (empty_queue args) q.group.audit) st.args
-    ∙ ap (audit_of (empty_queue d.args)) (st.group.represents.audit ∙ sym same) in
+    let are : audit_rows q ≡ rows = rows-are d entries same sessions q st in
     let parted : head_of count ++ flat_map text rows ≡ whole (audit_rows q) =
     ap (λ (k : ℕ). head_of k ++ flat_map text rows) (counted ∙ sym (audit-length (empty_queue d.args) entries))
     ∙ sym (parts rows) ∙ ap whole (sym are) in

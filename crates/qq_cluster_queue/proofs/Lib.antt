@@ -1,5 +1,6 @@
 pub mod Agrees
 mod Auditing
+pub mod Tallies
 mod Rows
 mod Current
 mod Members
@@ -21,3 +22,4 @@ mod Taking
 mod Refusing
 pub mod Fetched
 pub mod Asking
+mod Leading

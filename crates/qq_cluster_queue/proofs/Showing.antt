@@ -22,7 +22,7 @@ show_all-text label (x ∷ more) o =
     (flat_map (shown_text_as label.first label.name) more)
 
 pub show_all-takers : (label : Label) (shown : List Shown) (o : Outcome)
-    → (show_all label shown o).takers ≡ sees_all shown o.takers
+    → (show_all label shown o).takers ≡ sees_all label.queue.0 shown o.takers
 show_all-takers label [] o = refl
 show_all-takers label (x ∷ more) o = show_all-takers label more (show label x o)
 

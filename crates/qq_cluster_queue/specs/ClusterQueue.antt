@@ -52,7 +52,7 @@ text_as d shown = flat_map (shown_text_as d.label.first d.label.name) shown
 -- what is shown comes out of it: a text has grown by that, and the takers have seen it
 pub record Shows (d : ClusterQueue) (shown : List Shown) (before after : Outcome) : Type 0 where
   pub text : after.text ≡ before.text ++ text_as d shown
-  pub takers : after.takers ≡ sees_all shown before.takers
+  pub takers : after.takers ≡ sees_all d.label.queue.0 shown before.takers
 
 -- whichever queue it stood for, it stands for what an event makes of that, and shows what that shows
 abbrev pub Does : Event → Standings → ClusterQueue → ClusterQueue → Outcome → Outcome → Type 0

@@ -1,6 +1,6 @@
 pub mod Range
 pub mod Sessions
-pub mod Marks
+pub mod Tally
 pub mod Members
 pub mod Lines
 pub mod Telling

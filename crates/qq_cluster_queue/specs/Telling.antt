@@ -11,7 +11,7 @@ abbrev pub show : Label → Shown → Outcome → Outcome
 show label shown o =
     record {
       text = o.text ++ shown_text_as label.first label.name shown;
-      takers = sees shown o.takers;
+      takers = sees label.queue.0 shown o.takers;
     }
 
 -- one after the other

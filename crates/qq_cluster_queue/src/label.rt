@@ -9,15 +9,16 @@ ghost use Rattle.qq_cluster_queue.specs.Lines.{taken_words};
 ghost use Rattle.qq_session.specs.Shown.{Answered, Delivered, Dropped, HasEnded, IsBusy, NoLeader, NotTaken, Taken, WindowFull};
 
 use itoa::Buffer;
-use qq_base::{ConsumerId, Memory, SessionId, Text};
+use qq_base::{ConsumerId, Memory, QueueId, SessionId, Text};
 use qq_entry::{AuditRow, Delivery};
 use qq_script::{answer_text, delivery_text, session_line};
 use qq_taker::{Handed, Verdict};
 use std::alloc::Global;
 
-/// Whose lines they are: the queue's name, and whether it is the cluster's first queue.
+/// Whose lines they are: the queue's place and name, and whether it is the cluster's first queue.
 #[derive(Drop)]
 pub struct Label {
+    pub queue: QueueId,
     pub name: Text,
     pub first: bool,
 }

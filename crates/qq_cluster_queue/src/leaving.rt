@@ -2,26 +2,16 @@
 ghost use Rattle.std.specs.Prelude.{◌≡◌, Some, OnOk, OnErr, IsOkUnless};
 ghost use Rattle.qq_base.specs.Fronts.{IsFront};
 ghost use Rattle.qq_cluster.specs.Taking.{dropped_by, leaving_at, leaving_by};
-ghost use Rattle.qq_session.specs.Publishing.{closes};
 ghost use Rattle.qq_taker.specs.Seats.{staying};
 ghost use Rattle.qq_cluster_queue.specs.Telling.{show_all};
 
 use crate::label::Label;
 use crate::told::Told;
 use qq_base::{ConsumerId, Memory};
-use qq_entry::{Answer, AuditRow, Command};
+use qq_entry::{AuditRow, Command};
+use qq_session::closes;
 use qq_taker::{Leaving, Seats, Taker};
 use std::alloc::Global;
-
-// Whether an answer closes its number.
-fn closes(answer: &Answer) -> bool
-    ensures { result ≡ closes answer.now }
-{
-    !matches!(
-        answer,
-        Answer::Gap { .. } | Answer::WindowFull | Answer::SessionsFull
-    )
-}
 
 // Whose takers a command that is carried out drops.
 fn leaving_by(command: &Command) -> Option<Leaving>

@@ -80,6 +80,7 @@ impl ClusterQueue {
 
         ensures sound { IfOk result (λ queue. AreSound queue.group) }
         ensures ok { IfOk result (Opens args nodes.now) }
+        ensures queue { IfOk result (λ queue. queue.label.queue ≡ args.queue) }
         ensures label { IfOk result (λ queue.
             (queue.label.name ≡ name) × (queue.label.first ≡ first)) }
         ensures nodes { IfOk result (λ queue. queue.group.nodes.items ≡ nodes.now) }
@@ -93,7 +94,11 @@ impl ClusterQueue {
         let seats = Seats::new(alloc);
         let untold = Untold::new(alloc);
         Ok(ClusterQueue {
-            label: Label { name, first },
+            label: Label {
+                queue: args.queue,
+                name,
+                first,
+            },
             args,
             publishers,
             consumers,

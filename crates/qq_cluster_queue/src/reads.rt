@@ -1,6 +1,7 @@
 //! What a queue tells of itself.
 ghost use Rattle.std.specs.Prelude.{◌≡◌, ◌<◌, ◌-◌, ◌&&◌, drop, is_some, length, option_map};
 ghost use Rattle.std.specs.Bool.{Decides};
+ghost use Rattle.qq_cluster.specs.Counts.{counts};
 ghost use Rattle.qq_cluster.specs.Queue.{leader, receiver_by};
 ghost use Rattle.qq_cluster.specs.Rules.{is_quiet_at, waits_noticed, waits_synced, waits_written};
 ghost use Rattle.qq_group.specs.Group.{server_at};
@@ -11,9 +12,10 @@ ghost use Rattle.qq_cluster_queue.specs.Members.{number_of, AreSound};
 
 use crate::cluster_queue::ClusterQueue;
 use qq_base::NodeId;
-use qq_group::an_idle_group_has_nothing_open;
+use qq_group::{an_idle_group_has_nothing_open, what_is_committed_stays_in_the_audit};
 use qq_log::Log;
-use qq_raft_model::a_log_was_handed_the_changes_of_its_server;
+use qq_parts::parts_tell_the_queue;
+use qq_raft_model::{a_log_was_handed_the_changes_of_its_server, what_a_group_committed_stays};
 use qq_raft_msg::MemberState;
 use qq_raft_queues::MachineQueue;
 
@@ -33,6 +35,23 @@ impl ClusterQueue {
         ensures { OfItsQueue self.now (λ q. leader q.group ≡ number_of result) }
     {
         self.group.leader()
+    }
+
+    /// How many messages are ready at the leader, and how many of its consumers weren't cancelled, as far as 32 bits
+    /// count. None exactly where no leader is ready.
+    pub fn counts(&self) -> Option<(u64, u32)>
+        requires { AreSound self.now.group }
+
+        ensures { OfItsQueue self.now (λ q. result ≡ counts q) }
+    {
+        what_is_committed_stays_in_the_audit::<MachineQueue, Log>();
+        what_a_group_committed_stays();
+        parts_tell_the_queue();
+        let Some(queue) = self.group.leading_machine() else {
+            return None;
+        };
+        let machine = queue.machine();
+        Some(machine.counts())
     }
 
     /// What the member on a node tells of itself. None exactly where it is down.

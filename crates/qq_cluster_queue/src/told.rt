@@ -1,13 +1,13 @@
 //! What comes of a run outside of its queues.
 ghost use Rattle.std.specs.Prelude.{◌≡◌, ◌++◌, [], IfOk, OnOk, OnErr, IsOkUnless};
 ghost use Rattle.qq_session.specs.Shown.{Answered, Attached, Delivered, Dropped, HasEnded, IsBusy, NoLeader, NotTaken, Taken, WindowFull};
-ghost use Rattle.qq_taker.specs.Takers.{heard_of, listen, take_heard};
+ghost use Rattle.qq_taker.specs.Takers.{hear_on, heard_of, listen, take_heard};
 ghost use Rattle.qq_cluster_queue.specs.Telling.{show};
 
 use crate::label::{Label, taken_words, verdict_text};
 use qq_base::Memory;
 use qq_entry::AuditRow;
-use qq_taker::{Desk, Handed, Seat, Taker, Verdict};
+use qq_taker::{Desk, Handed, Heard, Refusal, Seat, Taker, Verdict};
 use std::alloc::Global;
 use std::marker::Model;
 use std::mem;
@@ -105,24 +105,32 @@ impl<T: Taker> Told<T> {
         self.desk
     }
 
-    /// From here on the deliveries are kept that are told to consumers without a taker. What was kept before is
-    /// dropped.
+    /// From here on it is kept what is told: answers, deliveries to consumers without a taker, and commands that weren't
+    /// given to a leader. What was kept before is dropped.
     pub fn listen(&mut self, alloc: Global)
         ensures { self.new ≡ record self.old { takers = listen self.old.takers } }
     {
         self.desk.listen(alloc);
     }
 
-    /// The deliveries that were kept, in order; from here on those are kept that come next. None exactly where nobody
-    /// listens.
-    pub fn take_heard(&mut self, alloc: Global) -> Option<Vec<Handed>>
+    /// What was kept, in order; from here on it is kept what comes next. None exactly where nobody listens.
+    pub fn take_heard(&mut self, alloc: Global) -> Option<Vec<Heard>>
         ensures heard { heard_of result ≡ self.old.takers.heard }
         ensures rest { self.new ≡ record self.old { takers = take_heard self.old.takers } }
     {
         self.desk.take_heard(alloc)
     }
 
-    /// The answer of a row is told.
+    /// What is told from here on goes behind this, and what was kept is handed back. None is where nobody listens.
+    pub fn hear_on(&mut self, list: Option<Vec<Heard>>) -> Option<Vec<Heard>>
+        ensures heard { heard_of result ≡ self.old.takers.heard }
+        ensures rest { self.new
+            ≡ record self.old { takers = hear_on (heard_of list) self.old.takers } }
+    {
+        self.desk.hear_on(list)
+    }
+
+    /// The answer of a row is told, and who listens hears it first.
     pub(crate) fn answered(
         &mut self,
         alloc: Global,
@@ -133,6 +141,7 @@ impl<T: Taker> Told<T> {
         ensures err { OnErr result (self.new.text ≡ self.old.text) }
         ensures want { IsOkUnless result Memory.Want }
     {
+        self.desk.hear_answer(alloc, label.queue, row)?;
         label.answered(alloc, row, &mut self.text)?;
         Ok(())
     }
@@ -149,12 +158,12 @@ impl<T: Taker> Told<T> {
         ensures err { OnErr result (self.new.text ≡ self.old.text) }
         ensures want { IsOkUnless result Memory.Want }
     {
-        self.desk.hear(alloc, handed)?;
+        self.desk.hear_delivery(alloc, label.queue, handed)?;
         label.delivered(alloc, handed.consumer, &handed.delivery, &mut self.text)?;
         Ok(())
     }
 
-    /// It is told that no leader is ready to take a session's command.
+    /// It is told that no leader is ready to take a session's command, and who listens hears it first.
     pub(crate) fn no_leader(
         &mut self,
         alloc: Global,
@@ -165,11 +174,13 @@ impl<T: Taker> Told<T> {
         ensures err { OnErr result (self.new.text ≡ self.old.text) }
         ensures want { IsOkUnless result Memory.Want }
     {
+        self.desk
+            .hear_refusal(label.queue, session, Refusal::NoLeader)?;
         label.no_leader(alloc, session, &mut self.text)?;
         Ok(())
     }
 
-    /// It is told that as many of a session's numbers are open as may be.
+    /// It is told that as many of a session's numbers are open as may be, and who listens hears it first.
     pub(crate) fn window_full(
         &mut self,
         alloc: Global,
@@ -180,11 +191,13 @@ impl<T: Taker> Told<T> {
         ensures err { OnErr result (self.new.text ≡ self.old.text) }
         ensures want { IsOkUnless result Memory.Want }
     {
+        self.desk
+            .hear_refusal(label.queue, session, Refusal::WindowFull)?;
         label.window_full(alloc, session, &mut self.text)?;
         Ok(())
     }
 
-    /// It is told that a session has ended.
+    /// It is told that a session has ended, and who listens hears it first.
     pub(crate) fn has_ended(
         &mut self,
         alloc: Global,
@@ -195,11 +208,13 @@ impl<T: Taker> Told<T> {
         ensures err { OnErr result (self.new.text ≡ self.old.text) }
         ensures want { IsOkUnless result Memory.Want }
     {
+        self.desk
+            .hear_refusal(label.queue, session, Refusal::Ended)?;
         label.has_ended(alloc, session, &mut self.text)?;
         Ok(())
     }
 
-    /// It is told that a delivery of this id wasn't handed out to a session's consumer.
+    /// It is told that a delivery of this id wasn't handed out to a session's consumer, and who listens hears it first.
     pub(crate) fn not_taken(
         &mut self,
         alloc: Global,
@@ -211,6 +226,8 @@ impl<T: Taker> Told<T> {
         ensures err { OnErr result (self.new.text ≡ self.old.text) }
         ensures want { IsOkUnless result Memory.Want }
     {
+        self.desk
+            .hear_refusal(label.queue, session, Refusal::NotTaken { id })?;
         label.not_taken(alloc, session, id, &mut self.text)?;
         Ok(())
     }

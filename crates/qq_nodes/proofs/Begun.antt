@@ -13,6 +13,7 @@ use Rattle.qq_log.specs.declared.limits.TheConstants.{NODE_LIMIT}
 use Rattle.qq_lots.specs.Lots.{ids_of}
 use Rattle.qq_raft_model.specs.Group.{has_node}
 use Rattle.qq_raft_model.specs.State.{Server}
+use Rattle.qq_raft_protocol.specs.Facts.{In}
 use Rattle.qq_setup.specs.declared.queue_row.QueueRow.{QueueRow}
 use Rattle.qq_cluster.specs.Cluster.{Setup, members, new_cluster}
 use Rattle.qq_cluster.specs.Queue.{begin}
@@ -30,6 +31,7 @@ use Rattle.qq_nodes.specs.declared.nodes.Nodes.{Nodes as Held}
 use Rattle.qq_nodes.proofs.OwnStands.{seen-own}
 use Rattle.qq_nodes.proofs.Putting.{bare-new}
 use Rattle.qq_nodes.proofs.Quiet.{all-from}
+use Rattle.qq_nodes.proofs.Walks.{in-range}
 
 -- an item at each index
 pub item-at : {A B : Type 0} (xs : List A) (ys : List B) (at : ℕ) (y : B) → length ys ≡ length xs → slice_get ys at ≡ Some y
@@ -112,8 +114,15 @@ module _ (setup : Setup) (rows : List QueueRow) (count : ℕ) (set : IsSetupOver
     sound = own.sound;
     name_is = own.name_is ∙ is.name_is;
     first_is = own.first_is ∙ first-index at ∙ ap (nat_eq (at + 1)) (sym set.set_up.first);
+    place_is = ap (λ (q : QueueId). q.0) own.queue_is ∙ ap (λ (a : QueueArgs). a.queue.0) is.args_is
+        ∙ set.set_up.ids (at + 1) among;
   }
     where
+      among : In (at + 1) setup.places
+      among =
+          subst (In (at + 1)) (sym set.set_up.places)
+          (in-range (length rows) at (slice_get_within rows at row here))
+
       is : IsRowOf setup (at + 1) row
       is = set.each at row here
 

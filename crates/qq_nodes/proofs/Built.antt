@@ -69,9 +69,9 @@ own-args args nodes d reached opens =
 pub queue-made : (row : QueueRow) (first : Bool) (args : QueueArgs) (name : List ℕ) (nodes : List NodeId)
     (d : ClusterQueue) → args ≡ row.args → name ≡ row.name → nodes ≡ row.members
     → IsReached (new_group row.args.queue row.members) → AreSound d.group → Opens args nodes d
-    → (d.label.name ≡ name) × (d.label.first ≡ first) → d.group.nodes.items ≡ nodes
+    → (d.label.name ≡ name) × (d.label.first ≡ first) → d.label.queue ≡ args.queue → d.group.nodes.items ≡ nodes
     → ((k : ℕ) → server_at k d.group ≡ None) → ((logs : ℕ → List Op) → BeginsWith logs d) → IsQueueFor row first d
-queue-made row first args name nodes d args_is name_is nodes_is reached sound opens label own_nodes down begins =
+queue-made row first args name nodes d args_is name_is nodes_is reached sound opens label queue own_nodes down begins =
     let opens_row : Opens row.args row.members d =
     subst (λ (a : QueueArgs). Opens a row.members d) args_is
     (subst (λ (l : List NodeId). Opens args l d) nodes_is opens) in
@@ -82,6 +82,7 @@ queue-made row first args name nodes d args_is name_is nodes_is reached sound op
       nodes_is = own_nodes ∙ nodes_is;
       name_is = label.0 ∙ name_is;
       first_is = label.1;
+      queue_is = queue ∙ ap (λ (a : QueueArgs). a.queue) args_is;
       down = down;
       begins = begins;
     }

@@ -6,6 +6,7 @@ pub mod Outside
 pub mod Items
 pub mod Outcomes
 pub mod Stands
+pub mod Joined
 pub mod OneQueue
 pub mod Repeated
 pub mod Judged

@@ -126,6 +126,7 @@ module _ {D : Type 0} {tells : D → Bool} {past : D → List Disk} {faults : D 
             sound = was.sound;
             name_is = was.name_is;
             first_is = was.first_is;
+            place_is = was.place_is;
           });
           nodes = λ i node there. node-stays setup c (Alike standing) (i + 1) node refl (st.nodes i node there);
           auto = st.auto;

@@ -66,7 +66,7 @@ becomes-does event sessions old new outcome becomes q st =
       both.0,
       record {
         text = sym (append-nil outcome.text) ∙ ap (λ (l : List Shown). outcome.text ++ text_as old l) (sym both.1);
-        takers = ap (λ (l : List Shown). sees_all l outcome.takers) (sym both.1);
+        takers = ap (λ (l : List Shown). sees_all old.label.queue.0 l outcome.takers) (sym both.1);
       },
     )
 
@@ -133,7 +133,8 @@ pub shows-at : (setup : Setup) (sessions : Standings) (c : Cluster) (event : Eve
     → ShowsOne setup c (At place event) before later
 shows-at setup sessions c event place d before later is shows = record {
   text = shows.text ∙ ap (λ (l : List ℕ). before.text ++ l) (text-at setup sessions c event place d is);
-  takers = shows.takers ∙ sym (takers-at setup c place event before.takers);
+  takers = shows.takers ∙ ap (λ (k : ℕ). sees_all k (said (c.queue place) event) before.takers) is.place_is
+      ∙ sym (takers-at setup c place event before.takers);
 }
 
 -- ---- the cluster after an event at one place
@@ -209,6 +210,7 @@ module _ {D : Type 0} {tells : D → Bool} {past : D → List Disk} where
                 sound = does.sound;
                 name_is = ap (λ l. l.name) does.same.label_is ∙ was.name_is;
                 first_is = ap (λ l. l.first) does.same.label_is ∙ was.first_is;
+                place_is = ap (λ l. l.queue.0) does.same.label_is ∙ was.place_is;
               }))
           by (inr other) =
               let was = st.queues i d other.1 in
@@ -218,6 +220,7 @@ module _ {D : Type 0} {tells : D → Bool} {past : D → List Disk} where
                 sound = was.sound;
                 name_is = was.name_is;
                 first_is = was.first_is;
+                place_is = was.place_is;
               }
 
 module _ {D : Type 0} {tells : D → Bool} {past : D → List Disk} {faults : D → ℕ} where
@@ -274,6 +277,7 @@ module _ {D : Type 0} {tells : D → Bool} {past : D → List Disk} {faults : D 
             sound = was.sound;
             name_is = was.name_is;
             first_is = was.first_is;
+            place_is = was.place_is;
           });
           nodes = λ i node there. node-stays setup c event (i + 1) node (ap (is_node (i + 1)) unseen) (st.nodes i node there);
           auto = st.auto ∙ sym (autos c);
@@ -297,6 +301,7 @@ module _ {D : Type 0} {tells : D → Bool} {past : D → List Disk} {faults : D 
             sound = was.sound;
             name_is = was.name_is;
             first_is = was.first_is;
+            place_is = was.place_is;
           });
           nodes = λ i node there. node-stays setup c (Sets auto) (i + 1) node refl (st.nodes i node there);
           auto = refl;

@@ -62,6 +62,7 @@ turned-queues test event setup sessions c d olds news turns was own other at e t
           sound = turn.sound;
           name_is = ap (λ l. l.name) turn.same.label_is ∙ old.name_is;
           first_is = ap (λ l. l.first) turn.same.label_is ∙ old.first_is;
+          place_is = ap (λ l. l.queue.0) turn.same.label_is ∙ old.place_is;
         }
     by false is =
         let old = was at e (sym (turns.others at is) ∙ there) in
@@ -70,6 +71,7 @@ turned-queues test event setup sessions c d olds news turns was own other at e t
           sound = old.sound;
           name_is = old.name_is;
           first_is = old.first_is;
+          place_is = old.place_is;
         }
 
 -- ---- nodes

@@ -1,7 +1,7 @@
 -- The lines of a queue's members.
-use Rattle.std.proofs.Common.{◌≡◌, ◌≢◌, ◌⊎◌, ◌<◌, ◌≤◌, ◌+◌, ◌-◌, ℕ, Bool, true, false, cond, ◌||◌, ◌&&◌, List, [], ◌∷◌, ◌++◌, Some, map, length, refl, sym, ap, ◌∙◌, subst, inl, inr, arith, append-nil}
+use Rattle.std.proofs.Common.{◌≡◌, ◌≢◌, ◌⊎◌, ◌<◌, ◌≤◌, ◌+◌, ◌-◌, ℕ, Bool, true, false, cond, ◌||◌, ◌&&◌, List, [], ◌∷◌, ◌++◌, Option, Some, None, map, length, refl, sym, ap, ◌∙◌, subst, inl, inr, arith, append-nil}
 use Rattle.std.specs.Global.{Vec}
-use Rattle.std.specs.Prelude.{filter, nat_eq, slice_get}
+use Rattle.std.specs.Prelude.{filter, is_some, nat_eq, slice_get}
 use Rattle.std.specs.List.{flat_map, list_any, range_with_len}
 use Rattle.std.proofs.lemmas.Bool.{cases_eq, eq-eqb, ne_eqb}
 use Rattle.qq_base.specs.Causes.{SpentOnlyWhere}
@@ -23,6 +23,7 @@ use Rattle.qq_base.specs.declared.ids.NodeId.{NodeId}
 use Rattle.qq_script.specs.Audit.{audit_text}
 use Rattle.qq_cluster.specs.Queue.{Queue, audit_rows}
 use Rattle.qq_cluster_queue.specs.ClusterQueue.{OfItsQueue}
+use Rattle.qq_cluster_queue.specs.Members.{number_of}
 use Rattle.qq_cluster_queue.specs.Sessions.{standings}
 use Rattle.qq_cluster_queue.specs.declared.cluster_queue.ClusterQueue.{ClusterQueue}
 use Rattle.qq_cluster.specs.Outcome.{Outcome, takers_after, sees_prints}
@@ -142,6 +143,11 @@ pub shows-line : (setup : Setup) (c : Cluster) (place k : ℕ) → has_node k (m
 shows-line setup c place k own =
     ap (λ (b : Bool). cond b (state_line (setup.name place) k ((c.queue place).group.seat k).server) []) own
 
+-- a node has a number
+pub some-number : (o : Option NodeId) → is_some (number_of o) ≡ is_some o
+some-number None = refl
+some-number (Some node) = refl
+
 -- ---- what a call adds
 
 module _ {D : Type 0} {tells : D → Bool} {past : D → List Disk} where
@@ -152,6 +158,13 @@ module _ {D : Type 0} {tells : D → Bool} {past : D → List Disk} where
       subst (λ (k : ℕ). IsQueueOf setup (standings held.sessions) c k x)
       (let low = is.0 in let e : (queue.0 - 1) + 1 ≡ queue.0 = omega (arith, low) in e)
       (st.queues (queue.0 - 1) x here)
+
+  -- what a queue tells of itself is so of the one at its place
+  pub told-at : (Holds : Queue → Type 0) (held : Held D) (queue : QueueId) (x : ClusterQueue) → IsQueueAt queue held
+      → slice_get held.queues.items (queue.0 - 1) ≡ Some x → OfItsQueue x Holds
+      → (setup : Setup) (c : Cluster) → Stands tells past setup held c → Holds (c.queue queue.0)
+  told-at Holds held queue x is here own setup c st =
+      own (standings held.sessions) (c.queue queue.0) (queue-was setup c held queue x is here st).stands
 
   -- a queue's audit
   pub audit-at : (held : Held D) (queue : QueueId) (x : ClusterQueue) (before later : List ℕ) → IsQueueAt queue held

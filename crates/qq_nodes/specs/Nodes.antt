@@ -67,6 +67,7 @@ pub record IsQueueOf (setup : Setup) (sessions : Standings) (c : Cluster) (place
   pub sound : AreSound d.group
   pub name_is : d.label.name ≡ setup.name place
   pub first_is : d.label.first ≡ is_first setup place
+  pub place_is : d.label.queue.0 ≡ place
 
 -- A node is the one of this number, and as it stands there. Where it is marked as empty it is down, and its log has nothing of
 -- its queues.

@@ -57,6 +57,7 @@ pub record IsQueueFor (row : QueueRow) (first : Bool) (d : ClusterQueue) : Type 
   pub nodes_is : d.group.nodes.items ≡ row.members
   pub name_is : d.label.name ≡ row.name
   pub first_is : d.label.first ≡ first
+  pub queue_is : d.label.queue ≡ row.args.queue
   pub down : (k : ℕ) → server_at k d.group ≡ None
   pub begins : (logs : ℕ → List Op) → BeginsWith logs d
 

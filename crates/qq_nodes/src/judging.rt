@@ -1,5 +1,5 @@
 //! Takers are asked about what was handed out.
-ghost use Rattle.std.specs.Prelude.{◌≡◌, ◌<◌, ◌+◌, true, length, IfErr, IfOk, IfSome, IsOkUnless, OnErr, OnOk};
+ghost use Rattle.std.specs.Prelude.{◌≡◌, ◌<◌, ◌+◌, true, length, IfErr, IfOk, IfSome, IsOkUnless, OnOk};
 ghost use Rattle.qq_cluster.specs.Cluster.{Cluster, Setup};
 ghost use Rattle.qq_cluster.specs.Rules.{IsNextJudged, IsTold, Tells};
 ghost use Rattle.qq_cluster_queue.specs.Judging.{MayClaim};

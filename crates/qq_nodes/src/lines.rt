@@ -1,19 +1,18 @@
 //! The lines of a script, as the nodes carry them out.
-ghost use Rattle.std.specs.Prelude.{◌≡◌, ◌<◌, ◌≤◌, ◌+◌, ◌-◌, true, length, map, All, IfErr, IsOkUnless, OnOk};
-ghost use Rattle.qq_base.specs.declared.ids.QueueId.{QueueId as Id};
+ghost use Rattle.std.specs.Prelude.{◌≡◌, ◌<◌, ◌+◌, ◌-◌, true, length, IfErr, IsOkUnless, OnOk};
 ghost use Rattle.qq_cluster.specs.Cluster.{Cluster, Setup, Alike, At, EndsEach, MutesEach};
-ghost use Rattle.qq_cluster.specs.Lines.{AndPumped, IsRouted, WhereUp};
+ghost use Rattle.qq_cluster.specs.Lines.{AndPumped, WhereUp};
 ghost use Rattle.qq_cluster.specs.Outcome.{Outcome};
-ghost use Rattle.qq_cluster.specs.Queue.{Attaches, Downs, Notices, Resends, Ticks};
-ghost use Rattle.qq_cluster.specs.Rules.{ForEach, Is, IsEnd, IsGiven, IsResend, IsSync, IsWrite, Tells, not_taken};
+ghost use Rattle.qq_cluster.specs.Queue.{Attaches, Downs, Notices, Ticks};
+ghost use Rattle.qq_cluster.specs.Rules.{ForEach, Is, IsEnd, IsGiven, IsSync, IsWrite, Tells, not_taken};
 ghost use Rattle.qq_cluster_queue.specs.Range.{MayStamp};
 ghost use Rattle.qq_nodes.specs.Active.{is_in};
-ghost use Rattle.qq_nodes.specs.Asking.{MayAsk, asked};
+ghost use Rattle.qq_nodes.specs.Asking.{asked};
 ghost use Rattle.qq_nodes.specs.Nodes.{CanServe, GaveUp, IsNodeAt, IsQueueAt, Served, Stands};
 
 use crate::asking::Ask;
 use crate::nodes::Nodes;
-use qq_base::{Duplicate, Memory, NodeId, QueueId};
+use qq_base::{Memory, NodeId, QueueId};
 use qq_cluster_queue::{Told, sessions_are_those_of_each_queue};
 use qq_disk::NodeDisk;
 use qq_entry::Unstamped;
@@ -88,6 +87,31 @@ impl<D: NodeDisk> Nodes<D> {
         Ok(())
     }
 
+    /// A session's command at a queue. No pump follows it.
+    pub fn hand<T: Taker>(
+        &mut self,
+        alloc: Global,
+        queue: QueueId,
+        session: u64,
+        body: Unstamped,
+        told: &mut Told<T>,
+    ) -> Result<(), Memory>
+        requires serve { CanServe D.tells D.past self.old }
+        requires queue { IsQueueAt queue self.old }
+        requires session { 0 < session }
+        requires range { MayStamp body }
+        ensures ok { OnOk result (Served D.tells D.past D.faults
+            (λ (setup : Setup). IsGiven session body queue.0)
+            self.old self.new told.old told.new) }
+        ensures err { IfErr result (GaveUp D.tells D.past D.faults
+            (λ (setup : Setup). IsGiven session body queue.0) self.old self.new) }
+    {
+        if let Err(cause) = self.give_at(alloc, queue.0 as usize - 1, session, body, told) {
+            return Err(cause);
+        }
+        Ok(())
+    }
+
     /// A session's command at a queue, and a pump after it where one is to follow.
     pub fn give<T: Taker>(
         &mut self,
@@ -107,7 +131,7 @@ impl<D: NodeDisk> Nodes<D> {
         ensures err { IfErr result (GaveUp D.tells D.past D.faults
             (λ (setup : Setup). AndPumped setup (IsGiven session body queue.0)) self.old self.new) }
     {
-        if let Err(cause) = self.give_at(alloc, queue.0 as usize - 1, session, body, told) {
+        if let Err(cause) = self.hand(alloc, queue, session, body, told) {
             return Err(cause);
         }
         if let Err(cause) = self.pumped(alloc, told) {

@@ -1,5 +1,5 @@
 //! Calls of one node's log.
-ghost use Rattle.std.specs.Prelude.{◌≡◌, ◌<◌, false, length, IfErr, IfOk, slice_get, Some, true};
+ghost use Rattle.std.specs.Prelude.{◌≡◌, ◌<◌, false, length, IfErr, IfOk, slice_get, Some};
 ghost use Rattle.qq_nodes.specs.Logs.{Appends, AppendsInPart, MayAppendAt, MaySyncAt, NodeTurns, Syncs, SyncsInPart};
 ghost use Rattle.qq_nodes.specs.declared.node.Node.{Node as NodeOf};
 

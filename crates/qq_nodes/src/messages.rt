@@ -1,9 +1,7 @@
 //! Lines for one message that is on its way.
-ghost use Rattle.std.specs.Prelude.{◌≡◌, ◌<◌, ◌+◌, ◌-◌, length, IfErr, IfSome, IsOkUnless, OnOk};
-ghost use Rattle.qq_cluster.specs.Cluster.{Cluster, SaysNoSuch, Setup};
+ghost use Rattle.std.specs.Prelude.{◌≡◌, ◌<◌, ◌+◌, ◌-◌, length, IfErr, IfSome, OnOk};
+ghost use Rattle.qq_cluster.specs.Cluster.{Cluster, Setup};
 ghost use Rattle.qq_cluster.specs.Lines.{IsCopy, IsDeliver, IsDelivered, IsLose, WhereThere, receiver_at};
-ghost use Rattle.qq_cluster.specs.Rules.{Is};
-ghost use Rattle.qq_cluster_laws.specs.Linked.{IsReached};
 ghost use Rattle.qq_cluster_queue.specs.Members.{number_of};
 ghost use Rattle.qq_nodes.specs.Asking.{MayAsk, asked};
 ghost use Rattle.qq_nodes.specs.Nodes.{CanServe, GaveUp, IsNodeAt, IsQueueAt, Served, Stands};

@@ -1,5 +1,5 @@
 //! The nodes of a cluster and its queues, side by side.
-ghost use Rattle.std.specs.Prelude.{◌≡◌, ◌<◌, ◌-◌, ◌+◌, ◌++◌, ◌&&◌, ℕ, Some, true, length, slice_get, IfErr, IsOkUnless, OnOk};
+ghost use Rattle.std.specs.Prelude.{◌≡◌, ◌<◌, ◌-◌, ◌+◌, ◌++◌, ◌&&◌, true, length, IfErr, IsOkUnless, OnOk};
 ghost use Rattle.std.specs.Fmt.{decimal};
 ghost use Rattle.qq_cluster.specs.Cluster.{Cluster, Setup, At, SaysBusy, SaysDown, SaysEnded, SaysNoSuch, SaysUnroutable, Sets};
 ghost use Rattle.qq_cluster.specs.Outcome.{Outcome};

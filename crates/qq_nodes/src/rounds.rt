@@ -1,6 +1,6 @@
 //! Rounds and pumps: what waits is written, synced and noticed node by node, then messages are delivered queue by
 //! queue, until nothing is left to do.
-ghost use Rattle.std.specs.Prelude.{◌≡◌, ◌<◌, ◌+◌, true, length, IfErr, IsOkUnless, OnOk};
+ghost use Rattle.std.specs.Prelude.{◌≡◌, ◌<◌, ◌+◌, true, length, IfErr, OnOk};
 ghost use Rattle.qq_cluster.specs.Cluster.{Cluster, Setup};
 ghost use Rattle.qq_cluster.specs.Outcome.{Outcome};
 ghost use Rattle.qq_cluster.specs.Rules.{ForEach, IsEmptied, IsNodeRound, IsNothing, IsNotice, IsPump, IsPumped, IsRound, is_idle, is_quiet};

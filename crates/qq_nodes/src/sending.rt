@@ -1,6 +1,5 @@
 //! Lines that send commands to several queues.
-ghost use Rattle.std.specs.Prelude.{◌<◌, ◌-◌, ◌≡◌, All, IfErr, OnOk, length, map, slice_get};
-ghost use Rattle.qq_base.specs.declared.ids.QueueId.{QueueId as Id};
+ghost use Rattle.std.specs.Prelude.{◌<◌, ◌-◌, All, IfErr, OnOk, length};
 ghost use Rattle.qq_cluster.specs.Cluster.{At, Setup};
 ghost use Rattle.qq_cluster.specs.Lines.{AndPumped, IsRouted};
 ghost use Rattle.qq_cluster.specs.Queue.{Fetches, Resends};

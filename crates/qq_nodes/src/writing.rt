@@ -1,12 +1,10 @@
 //! What waits at a node is written to its log, and synced.
-ghost use Rattle.std.specs.Prelude.{◌≡◌, ◌++◌, ◌-◌, All, IfErr, IsOkUnless, OnErr, OnOk, codes, length, nat_lt};
+ghost use Rattle.std.specs.Prelude.{◌≡◌, ◌++◌, ◌-◌, All, IfErr, IsOkUnless, OnErr, OnOk, codes};
 ghost use Rattle.std.specs.Fmt.{decimal};
 ghost use Rattle.qq_cluster.specs.Cluster.{Setup};
-ghost use Rattle.qq_cluster.specs.Queue.{Stops};
 ghost use Rattle.qq_cluster.specs.Rules.{IsSync, IsWrite};
 ghost use Rattle.qq_cluster_queue.specs.Members.{AreSound};
 ghost use Rattle.qq_cluster_queue.specs.declared.cluster_queue.ClusterQueue.{ClusterQueue as Queue};
-ghost use Rattle.qq_nodes.specs.Logs.{NodeTurns};
 ghost use Rattle.qq_nodes.specs.Nodes.{CanServe, GaveUp, IsNodeAt, Served};
 ghost use Rattle.qq_nodes.specs.Showing.{with_line};
 ghost use Rattle.qq_nodes.specs.Turning.{HasStopped};

@@ -324,6 +324,7 @@ module _ {D : Type 0} {tells : D → Bool} {past : D → List Disk} (setup : Set
                   sound = takes.sound;
                   name_is = ap (λ l. l.name) takes.same.label_is ∙ old.name_is;
                   first_is = ap (λ l. l.first) takes.same.label_is ∙ old.first_is;
+                  place_is = ap (λ l. l.queue.0) takes.same.label_is ∙ old.place_is;
                 }
             ways (inr (none, same)) =
                 let out = outside setup c k (i + 1) st.set_up.groups r (no-member i b.old b.was none) in
@@ -333,6 +334,7 @@ module _ {D : Type 0} {tells : D → Bool} {past : D → List Disk} (setup : Set
                   sound = old.sound;
                   name_is = old.name_is;
                   first_is = old.first_is;
+                  place_is = old.place_is;
                 })
 
     settled-after : (place : ℕ) → In place setup.places

@@ -192,6 +192,7 @@ module _ {D : Type 0} {tells : D → Bool} {past : D → List Disk} {faults : D 
             sound = own.sound;
             name_is = own.name_is;
             first_is = own.first_is;
+            place_is = own.place_is;
           }
 
       failed-queues : QueuesOf setup (standings old.sessions) after_it left.queues.items

@@ -14,7 +14,8 @@ fn mark<D: NodeDisk>(node: &mut Node<D>, up: bool)
 
 fn mark_at<D: NodeDisk>(nodes: &mut [Node<D>], at: usize, up: bool)
     requires { at < length nodes.old }
-    ensures { NodeTurns (λ old new. new ≡ record old { up = up; empty = not up }) at nodes.old nodes.new }
+    ensures { NodeTurns (λ old new. new ≡ record old { up = up; empty = not up }) at
+        nodes.old nodes.new }
 {
     mark(&mut nodes[at], up);
 }
@@ -22,8 +23,8 @@ fn mark_at<D: NodeDisk>(nodes: &mut [Node<D>], at: usize, up: bool)
 // The node at an index is up from here on, or down with nothing in its log.
 pub(crate) fn mark_in<D: NodeDisk>(nodes: &mut Vec<Node<D>>, at: usize, up: bool)
     requires { at < length nodes.old.items }
-    ensures { NodeTurns (λ old new. new ≡ record old { up = up; empty = not up }) at nodes.old.items
-        nodes.new.items }
+    ensures { NodeTurns (λ old new. new ≡ record old { up = up; empty = not up }) at
+        nodes.old.items nodes.new.items }
 {
     mark_at(nodes, at, up);
 }

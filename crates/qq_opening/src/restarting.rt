@@ -1,9 +1,9 @@
 //! Nodes are restarted.
-ghost use Rattle.std.specs.Prelude.{◌≡◌, ◌&&◌, ◌||◌, not, IfErr, IfOk, OnOk};
+ghost use Rattle.std.specs.Prelude.{IfErr, OnOk};
 ghost use Rattle.qq_cluster.specs.Cluster.{Setup};
 ghost use Rattle.qq_cluster.specs.Rules.{ForEach, IsRestart};
 ghost use Rattle.qq_nodes.specs.Nodes.{CanServe, IsNodeAt, Served};
-ghost use Rattle.qq_opening.specs.Restarting.{Refuses, RestartEachTo, all_nodes, this_node};
+ghost use Rattle.qq_opening.specs.Restarting.{Refuses, all_nodes, this_node};
 
 use crate::stepping::recover_node;
 use qq_base::{Memory, NodeId, QueueId};

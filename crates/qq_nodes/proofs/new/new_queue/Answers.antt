@@ -10,4 +10,4 @@ returns-clause-ok c =
     (of-ok (λ x. x ≡ row.name) c.copy-2.result c.in_ok-args.name c.in_ok-args.ensures.second c.copy-2.ensures.ok)
     c.as_slice.ensures (c.events_reach_groups.ensures.first row.args.queue row.members c.requires.distinct)
     c.in_ok-queue.ensures.sound c.in_ok-queue.ensures.ok c.in_ok-queue.ensures.label
-    c.in_ok-queue.ensures.nodes c.in_ok-queue.ensures.down c.in_ok-queue.ensures.begins
+    c.in_ok-queue.ensures.queue c.in_ok-queue.ensures.nodes c.in_ok-queue.ensures.down c.in_ok-queue.ensures.begins

@@ -1,30 +1,15 @@
-use Rattle.qq_cluster.specs.Cluster.{Setup}
-use Rattle.qq_cluster.specs.Rules.{IsGiven}
-use Rattle.qq_nodes.proofs.LineRules.{at-queue, at-queue_gave_up, queue-index}
 use Rattle.qq_nodes.proofs.Stands.{can-after, gave_up-first, gave_up-second, served-then}
 use Rattle.qq_nodes.proofs.Total.{total-pumped}
 use Rattle.qq_nodes.proofs.nodes.Nodes.give.Goals as goal
-
-pub give_at-requires-clause-place : goal.give_at-requires-clause-place
-give_at-requires-clause-place g c = queue-index c.args.self.now c.args.queue c.requires.queue
 
 pub pumped-requires : goal.pumped-requires
 pumped-requires g c = can-after c.requires.serve c.in_default.ensures.ok
 
 pub returns-clause-ok : goal.returns-clause-ok
-returns-clause-ok g c =
-    served-then
-    (at-queue (λ k (setup : Setup). IsGiven c.args.session c.args.body k) c.args.queue c.requires.queue.0
-    c.in_default.ensures.ok) c.in_default-pumped.ensures.ok
+returns-clause-ok g c = served-then c.in_default.ensures.ok c.in_default-pumped.ensures.ok
 
 pub returns-in-Err-clause-err : goal.returns-in-Err-clause-err
-returns-in-Err-clause-err g c =
-    gave_up-first total-pumped
-    (at-queue_gave_up (λ k (setup : Setup). IsGiven c.args.session c.args.body k) c.args.queue c.requires.queue.0
-    c.in-Err.ensures.err)
+returns-in-Err-clause-err g c = gave_up-first total-pumped c.in-Err.ensures.err
 
 pub returns-in-Err-pumped-clause-err : goal.returns-in-Err-pumped-clause-err
-returns-in-Err-pumped-clause-err g c =
-    gave_up-second
-    (at-queue (λ k (setup : Setup). IsGiven c.args.session c.args.body k) c.args.queue c.requires.queue.0
-    c.in_default.ensures.ok) c.in-Err-pumped.ensures.err
+returns-in-Err-pumped-clause-err g c = gave_up-second c.in_default.ensures.ok c.in-Err-pumped.ensures.err

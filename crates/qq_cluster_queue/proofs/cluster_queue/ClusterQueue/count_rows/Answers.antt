@@ -2,9 +2,9 @@ use Rattle.std.proofs.Common.{subst}
 use Rattle.qq_entry.specs.declared.queue.QueueArgs.{QueueArgs}
 use Rattle.qq_model.specs.State.{empty_queue}
 use Rattle.qq_cluster_queue.specs.Members.{queue_stands}
-use Rattle.qq_cluster_queue.proofs.cluster_queue.ClusterQueue.audit_marks.Goals as goal
+use Rattle.qq_cluster_queue.proofs.cluster_queue.ClusterQueue.count_rows.Goals as goal
 
-pub push_audit_marks-told-requires-clause-stands : goal.push_audit_marks-told-requires-clause-stands
-push_audit_marks-told-requires-clause-stands c =
+pub count_audit-told-requires-clause-stands : goal.count_audit-told-requires-clause-stands
+count_audit-told-requires-clause-stands c =
     subst (λ (args : QueueArgs). queue_stands (empty_queue args) c.new-machine.result) c.in-Ok.ensures.ok
     c.new-machine.ensures

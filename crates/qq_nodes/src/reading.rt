@@ -1,0 +1,46 @@
+//! What is read of a queue: whether it has a leader, what that has, and how many rows the audit has.
+ghost use Rattle.std.specs.Prelude.{◌≡◌, OnOk};
+ghost use Rattle.qq_cluster.specs.Cluster.{Cluster, Setup};
+ghost use Rattle.qq_cluster.specs.Counts.{counts};
+ghost use Rattle.qq_cluster.specs.Queue.{audit_rows, has_leader};
+ghost use Rattle.qq_cluster_queue.specs.Tally.{count_rows};
+ghost use Rattle.qq_nodes.specs.Nodes.{CanServe, IsQueueAt, Stands};
+
+use crate::nodes::Nodes;
+use qq_base::{Memory, QueueId};
+use qq_cluster_queue::Tally;
+use qq_disk::NodeDisk;
+use std::alloc::Global;
+
+impl<D: NodeDisk> Nodes<D> {
+    /// Whether a queue has a member that leads and takes commands.
+    pub fn has_leader(&self, queue: QueueId) -> bool
+        requires serve { CanServe D.tells D.past self.now }
+        requires queue { IsQueueAt queue self.now }
+        ensures { (setup : Setup) (c : Cluster) → Stands D.tells D.past setup self.now c →
+            result ≡ has_leader (c.queue queue.0) }
+    {
+        self.queues[queue.0 as usize - 1].leader().is_some()
+    }
+
+    /// How many messages are ready at a queue's leader, and how many of its consumers weren't cancelled. None exactly
+    /// where no member leads and takes commands.
+    pub fn counts(&self, queue: QueueId) -> Option<(u64, u32)>
+        requires serve { CanServe D.tells D.past self.now }
+        requires queue { IsQueueAt queue self.now }
+        ensures { (setup : Setup) (c : Cluster) → Stands D.tells D.past setup self.now c →
+            result ≡ counts (c.queue queue.0) }
+    {
+        self.queues[queue.0 as usize - 1].counts()
+    }
+
+    /// The rows of a queue's audit are counted too.
+    pub fn count_rows(&self, alloc: Global, queue: QueueId, tally: &mut Tally) -> Result<(), Memory>
+        requires { IsQueueAt queue self.now }
+        ensures { OnOk result ((setup : Setup) (c : Cluster) →
+            Stands D.tells D.past setup self.now c →
+            tally.new ≡ count_rows (audit_rows (c.queue queue.0)) tally.old) }
+    {
+        self.queues[queue.0 as usize - 1].count_rows(alloc, tally)
+    }
+}
