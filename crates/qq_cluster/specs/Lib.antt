@@ -2,6 +2,7 @@ pub mod Delivering
 pub mod Taking
 pub mod Outcome
 pub mod Queue
+pub mod Counts
 pub mod Cluster
 pub mod Texts
 pub mod Rules

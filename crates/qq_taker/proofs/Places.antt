@@ -8,7 +8,7 @@ use Rattle.std.proofs.Math.Seq.{map-set_same}
 use Rattle.std.proofs.lemmas.Option.{get_or_from_slice_get, slice_get-map, slice_get_read}
 use Rattle.qq_entry.specs.declared.answer.Delivery.{Delivery}
 use Rattle.qq_taker.specs.declared.desk.Place.{Place}
-use Rattle.qq_taker.specs.declared.handed.Handed.{Handed}
+use Rattle.qq_taker.specs.declared.heard.Heard.{Heard}
 use Rattle.qq_taker.specs.declared.taker.Seen.{Seen}
 use Rattle.qq_taker.specs.declared.taker.Verdict.{Verdict}
 use Rattle.qq_taker.specs.Takers.{Held, Free, Given, Gone, IsOffered, LooksAt, Takers, change_at, change_held, hand, held_by, held_of, is_free, is_free_by, is_given_by, look, taker_at}
@@ -22,7 +22,7 @@ pub there : {A : Type 0} (rows : List A) (at : ℕ) (old : A) → at < length ro
     → slice_get rows at ≡ Some old
 there rows at old within is = slice_get_read rows (length rows) at old refl within is
 
-module _ {T : Type 0} (seen : T → Option (List Seen)) (heard : Option (List Handed)) where
+module _ {T : Type 0} (seen : T → Option (List Seen)) (heard : Option (List Heard)) where
   -- the takers of these places, where this was kept
   abbrev pub desk_of : List (Place T) → Takers
   desk_of rows = record { held = held_of seen rows; heard = heard }

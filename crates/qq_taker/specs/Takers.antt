@@ -56,6 +56,16 @@ change_held (suc at) change held =
 abbrev pub change_at : ℕ → (Held → Held) → Takers → Takers
 change_at number change all = record all { held = change_held number change all.held }
 
+-- what a taker that wasn't dropped has seen
+abbrev pub seen_there : Held → Option (Option (List Seen))
+seen_there (Free seen) = Some seen
+seen_there (Given seen) = Some seen
+seen_there Gone = None
+
+-- of the taker of a number, None where none has it or it was dropped
+abbrev pub seen_at : ℕ → Takers → Option (Option (List Seen))
+seen_at number all = option_map_or seen_there (taker_at number all) None
+
 -- ---- what becomes of it
 
 abbrev pub is_free_by : Held → Bool

@@ -1,10 +1,12 @@
-ghost use Rattle.std.specs.Prelude.{◌≡◌, ◌++◌, ◌∷◌, [], IfOk, IsOkUnless, OnErr, OnOk};
-ghost use Rattle.qq_taker.specs.Takers.{Free, Gone, IsOffered, LooksAt, drop_at, give, hand, hear, heard_of, held_by, is_free, is_free_by, listen, no_takers, take_heard};
+ghost use Rattle.std.specs.Prelude.{◌≡◌, ◌++◌, ◌∷◌, [], IfOk, IsOkUnless, OnErr, OnOk, option_copied, option_map};
+ghost use Rattle.qq_taker.specs.declared.heard.What.TheVariants.{Answer, Delivery, Refused};
+ghost use Rattle.qq_taker.specs.Takers.{Free, Gone, IsOffered, LooksAt, drop_at, give, hand, hear, hear_on, heard_of, held_by, is_free, is_free_by, listen, no_takers, seen_at, seen_there, take_heard};
 
 use crate::handed::Handed;
+use crate::heard::{Heard, Refusal, What};
 use crate::taker::{Taker, Verdict};
-use qq_base::{Duplicate, Memory};
-use qq_entry::Delivery;
+use qq_base::{Duplicate, Memory, QueueId};
+use qq_entry::{AuditRow, Delivery};
 use std::alloc::Global;
 use std::marker::Model;
 use std::mem;
@@ -28,6 +30,16 @@ impl<T: Taker> Place<T> {
             Place::Free(_) => true,
             Place::Given(_) => false,
             Place::Gone => false,
+        }
+    }
+
+    fn taker(&self) -> Option<&T>
+        ensures { option_map T.seen (option_copied result) ≡ seen_there (held_by T.seen self.now) }
+    {
+        match self {
+            Place::Free(taker) => Some(taker),
+            Place::Given(taker) => Some(taker),
+            Place::Gone => None,
         }
     }
 
@@ -68,28 +80,61 @@ impl<T: Taker> Place<T> {
     }
 }
 
+// Something that is told of a queue is kept.
+fn keep(kept: &mut Vec<Heard>, queue: QueueId, what: What) -> Result<(), Memory>
+    ensures ok { OnOk result (kept.new.items
+        ≡ kept.old.items ++ record { queue = queue; what = what } ∷ []) }
+    ensures err { OnErr result (kept.new.items ≡ kept.old.items) }
+    ensures want { IsOkUnless result Memory.Want }
+{
+    kept.push(Heard { queue, what })?;
+    Ok(())
+}
+
+// A copy of a row of a queue's audit is kept.
+fn keep_answer(
+    alloc: Global,
+    kept: &mut Vec<Heard>,
+    queue: QueueId,
+    row: &AuditRow,
+) -> Result<(), Memory>
+    ensures ok { OnOk result (kept.new.items
+        ≡ kept.old.items ++ record { queue = queue; what = Answer row.now } ∷ []) }
+    ensures err { OnErr result (kept.new.items ≡ kept.old.items) }
+    ensures want { IsOkUnless result Memory.Want }
+{
+    let row = row.copy(alloc)?;
+    keep(kept, queue, What::Answer(row))
+}
+
 // A copy of a delivery is kept.
-fn keep(alloc: Global, kept: &mut Vec<Handed>, handed: &Handed) -> Result<(), Memory>
-    ensures ok { OnOk result (kept.new.items ≡ kept.old.items ++ handed.now ∷ []) }
+fn keep_delivery(
+    alloc: Global,
+    kept: &mut Vec<Heard>,
+    queue: QueueId,
+    handed: &Handed,
+) -> Result<(), Memory>
+    ensures ok { OnOk result (kept.new.items
+        ≡ kept.old.items ++ record { queue = queue; what = Delivery handed.now } ∷ []) }
     ensures err { OnErr result (kept.new.items ≡ kept.old.items) }
     ensures want { IsOkUnless result Memory.Want }
 {
     let delivery = handed.delivery.copy(alloc)?;
-    kept.push(Handed {
+    let handed = Handed {
         consumer: handed.consumer,
         delivery,
-    })?;
-    Ok(())
+    };
+    keep(kept, queue, What::Delivery(handed))
 }
 
 /// The takers of a run, under the numbers 1, 2, 3 and so on. Each may be given to one consumer, once.
 ///
-/// Beside them, who listens is told the deliveries to consumers without a taker. Contracts see of each taker whether it
-/// was given and what it has seen, and the deliveries that were kept.
+/// Beside them, who listens is told answers, deliveries to consumers without a taker, and that commands weren't given to
+/// a leader. Contracts see of each taker whether it was given and what it has seen, and what was kept.
 #[derive(Drop)]
 pub struct Desk<T: Taker> {
     rows: Vec<Place<T>>,
-    heard: Option<Vec<Handed>>,
+    heard: Option<Vec<Heard>>,
 }
 
 impl<T: Taker> Model for Desk<T> {
@@ -132,6 +177,19 @@ impl<T: Taker> Desk<T> {
         match self.rows.get(number as usize - 1) {
             None => false,
             Some(place) => place.is_free(),
+        }
+    }
+
+    /// The taker of this number. None exactly where none has it, or it was dropped.
+    pub fn taker(&self, number: u32) -> Option<&T>
+        ensures { option_map T.seen (option_copied result) ≡ seen_at number self.now }
+    {
+        if number == 0 {
+            return None;
+        }
+        match self.rows.get(number as usize - 1) {
+            None => None,
+            Some(place) => place.taker(),
         }
     }
 
@@ -180,29 +238,71 @@ impl<T: Taker> Desk<T> {
         place.leave();
     }
 
-    /// From here on the deliveries are kept that are told to consumers without a taker. What was kept before is
-    /// dropped.
+    /// From here on what is told is kept. What was kept before is dropped.
     pub fn listen(&mut self, alloc: Global)
         ensures { self.new ≡ listen self.old }
     {
         self.heard = Some(Vec::new(alloc));
     }
 
-    /// A delivery is told to a consumer without a taker. Out of memory, all is as before.
-    pub fn hear(&mut self, alloc: Global, handed: &Handed) -> Result<(), Memory>
-        ensures ok { OnOk result (self.new ≡ hear handed.now self.old) }
+    /// The answer of a row of a queue's audit is told. Where nobody listens nothing is copied. Out of memory, all is as
+    /// before.
+    pub fn hear_answer(
+        &mut self,
+        alloc: Global,
+        queue: QueueId,
+        row: &AuditRow,
+    ) -> Result<(), Memory>
+        ensures ok { OnOk result (self.new
+            ≡ hear (record { queue = queue; what = Answer row.now }) self.old) }
         ensures err { OnErr result (self.new ≡ self.old) }
         ensures want { IsOkUnless result Memory.Want }
     {
         match &mut self.heard {
             None => Ok(()),
-            Some(kept) => keep(alloc, kept, handed),
+            Some(kept) => keep_answer(alloc, kept, queue, row),
         }
     }
 
-    /// The deliveries that were kept, in order; from here on those are kept that come next. None exactly where nobody
-    /// listens.
-    pub fn take_heard(&mut self, alloc: Global) -> Option<Vec<Handed>>
+    /// A delivery to a consumer without a taker is told. Where nobody listens nothing is copied. Out of memory, all is
+    /// as before.
+    pub fn hear_delivery(
+        &mut self,
+        alloc: Global,
+        queue: QueueId,
+        handed: &Handed,
+    ) -> Result<(), Memory>
+        ensures ok { OnOk result (self.new
+            ≡ hear (record { queue = queue; what = Delivery handed.now }) self.old) }
+        ensures err { OnErr result (self.new ≡ self.old) }
+        ensures want { IsOkUnless result Memory.Want }
+    {
+        match &mut self.heard {
+            None => Ok(()),
+            Some(kept) => keep_delivery(alloc, kept, queue, handed),
+        }
+    }
+
+    /// A session's command wasn't given to a queue's leader, and that is told. Out of memory, all is as before.
+    pub fn hear_refusal(
+        &mut self,
+        queue: QueueId,
+        session: u64,
+        why: Refusal,
+    ) -> Result<(), Memory>
+        ensures ok { OnOk result (self.new
+            ≡ hear (record { queue = queue; what = Refused session why }) self.old) }
+        ensures err { OnErr result (self.new ≡ self.old) }
+        ensures want { IsOkUnless result Memory.Want }
+    {
+        match &mut self.heard {
+            None => Ok(()),
+            Some(kept) => keep(kept, queue, What::Refused { session, why }),
+        }
+    }
+
+    /// What was kept, in order; from here on what comes next is kept. None exactly where nobody listens.
+    pub fn take_heard(&mut self, alloc: Global) -> Option<Vec<Heard>>
         ensures heard { heard_of result ≡ self.old.heard }
         ensures rest { self.new ≡ take_heard self.old }
     {
@@ -210,5 +310,15 @@ impl<T: Taker> Desk<T> {
             None => None,
             Some(kept) => Some(mem::replace(kept, Vec::new(alloc))),
         }
+    }
+
+    /// What was kept is handed out, and what comes next is kept after this list. None is as if nobody listened.
+    ///
+    /// A caller that hears a call by itself begins with an empty list, and puts back what it was handed.
+    pub fn hear_on(&mut self, list: Option<Vec<Heard>>) -> Option<Vec<Heard>>
+        ensures heard { heard_of result ≡ self.old.heard }
+        ensures rest { self.new ≡ hear_on (heard_of list) self.old }
+    {
+        mem::replace(&mut self.heard, list)
     }
 }

@@ -4,6 +4,7 @@
 mod desk;
 mod fixed;
 mod handed;
+mod heard;
 mod laws;
 mod noting;
 mod seats;
@@ -12,12 +13,13 @@ mod taker;
 pub use desk::Desk;
 pub use fixed::FixedTaker;
 pub use handed::Handed;
+pub use heard::{Heard, Refusal, What};
 pub use laws::{
     given_takers_see_what_they_are_offered, takers_are_given_once,
-    takers_see_nothing_after_the_drop, who_listens_hears_each_delivery,
+    takers_see_nothing_after_the_drop, what_is_told_is_kept_in_order,
 };
 pub use noting::NotingTaker;
-pub use qq_base::{ConsumerId, Memory};
-pub use qq_entry::Delivery;
+pub use qq_base::{ConsumerId, Memory, QueueId};
+pub use qq_entry::{AuditRow, Delivery};
 pub use seats::{Leaving, Seat, Seats};
 pub use taker::{Seen, Taker, Verdict};
