@@ -19,6 +19,8 @@ mod GivenFree
 mod Gone
 pub mod Looped
 pub mod Closed
+pub mod Called
+pub mod CallAnswers
 pub mod DrillAudits
 pub mod DrillLoops
 pub mod DrillStops

@@ -27,7 +27,7 @@ pump-line setup c events so = so
 
 module _ {D : Type 0} (given : Giving D) (tells : D → Bool) (past : D → List Disk) (faults : D → ℕ) (run : Run) where
   -- with other nodes, and another text, it still has its setup and its room
-  runs-on : (old new : Broker D) (later : Run) → Runs given tells past faults old run → new.setup ≡ old.setup
+  pub runs-on : (old new : Broker D) (later : Run) → Runs given tells past faults old run → new.setup ≡ old.setup
       → new.room ≡ old.room → Holds given tells past faults old.setup new.nodes later
       → Runs given tells past faults new later
   runs-on old new later so same room holds =

@@ -6,5 +6,6 @@ pub mod Dumping
 pub mod Program
 pub mod Faults
 pub mod Broker
+pub mod Calling
 pub mod Drilling
 pub mod Drills
