@@ -37,7 +37,8 @@ drop-next es i e lt is = drop_more es i e lt ∙ ap (λ (x : Entry). x ∷ drop 
 -- its row stands first of those that are left
 pub row-next : (s : State) (es : List Entry) (i : ℕ) (e : Entry) (row : AuditRow) → i < length es → e ≡ get_or es i e
     → row ≡ row_of (next_index (state_after s (take i es))) e (next_step (state_after s (take i es)) e)
-    → row ∷ audit_of (state_after s (take (i + 1) es)) (drop (i + 1) es) ≡ audit_of (state_after s (take i es)) (drop i es)
+    → row ∷ audit_of (state_after s (take (i + 1) es)) (drop (i + 1) es)
+    ≡ audit_of (state_after s (take i es)) (drop i es)
 row-next s es i e row lt at is =
     let t : State = state_after s (take i es) in
     ap (λ (u : State). row ∷ audit_of u (drop (i + 1) es)) (state-next s es i e lt at)

@@ -37,8 +37,8 @@ impl ClusterQueue {
         self.group.leader()
     }
 
-    /// How many messages are ready at the leader, and how many of its consumers weren't cancelled, as far as 32 bits
-    /// count. None exactly where no leader is ready.
+    /// How many messages are ready at the leader, and how many consumers weren't cancelled, as far
+    /// as 32 bits count. None exactly where no member leads and takes commands.
     pub fn counts(&self) -> Option<(u64, u32)>
         requires { AreSound self.now.group }
 

@@ -105,15 +105,16 @@ impl<T: Taker> Told<T> {
         self.desk
     }
 
-    /// From here on it is kept what is told: answers, deliveries to consumers without a taker, and commands that weren't
-    /// given to a leader. What was kept before is dropped.
+    /// From here on what is told is kept: answers, deliveries to consumers without a taker, and
+    /// that commands weren't given to a leader. What was kept before is dropped.
     pub fn listen(&mut self, alloc: Global)
         ensures { self.new ≡ record self.old { takers = listen self.old.takers } }
     {
         self.desk.listen(alloc);
     }
 
-    /// What was kept, in order; from here on it is kept what comes next. None exactly where nobody listens.
+    /// What was kept, in order; what comes next is kept from here on. None exactly where nobody
+    /// listens.
     pub fn take_heard(&mut self, alloc: Global) -> Option<Vec<Heard>>
         ensures heard { heard_of result ≡ self.old.takers.heard }
         ensures rest { self.new ≡ record self.old { takers = take_heard self.old.takers } }
@@ -121,7 +122,8 @@ impl<T: Taker> Told<T> {
         self.desk.take_heard(alloc)
     }
 
-    /// What is told from here on goes behind this, and what was kept is handed back. None is where nobody listens.
+    /// What comes next is kept after this list, and what was kept is handed out. None is as if
+    /// nobody listened.
     pub fn hear_on(&mut self, list: Option<Vec<Heard>>) -> Option<Vec<Heard>>
         ensures heard { heard_of result ≡ self.old.takers.heard }
         ensures rest { self.new
@@ -163,7 +165,8 @@ impl<T: Taker> Told<T> {
         Ok(())
     }
 
-    /// It is told that no leader is ready to take a session's command, and who listens hears it first.
+    /// It is told that no leader is ready to take a session's command, and who listens hears it
+    /// first.
     pub(crate) fn no_leader(
         &mut self,
         alloc: Global,
@@ -180,7 +183,8 @@ impl<T: Taker> Told<T> {
         Ok(())
     }
 
-    /// It is told that as many of a session's numbers are open as may be, and who listens hears it first.
+    /// It is told that as many of a session's numbers are open as may be, and who listens hears it
+    /// first.
     pub(crate) fn window_full(
         &mut self,
         alloc: Global,
@@ -214,7 +218,8 @@ impl<T: Taker> Told<T> {
         Ok(())
     }
 
-    /// It is told that a delivery of this id wasn't handed out to a session's consumer, and who listens hears it first.
+    /// It is told that a delivery of this id wasn't handed out to a session's consumer, and who
+    /// listens hears it first.
     pub(crate) fn not_taken(
         &mut self,
         alloc: Global,

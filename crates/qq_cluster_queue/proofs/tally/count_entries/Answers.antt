@@ -17,11 +17,13 @@ entries-preserved c =
     record {
       count = c.in-Ok.ensures.count;
       stands = λ s given.
-          let row = c.in-Ok.ensures.ok (state_after s (take c.entries.entry-index es)) (c.entries.invariant.stands s given) in
+          let row =
+          c.in-Ok.ensures.ok (state_after s (take c.entries.entry-index es)) (c.entries.invariant.stands s given) in
           subst (λ (t : State). queue_stands t c.next_row.new.machine)
           (sym (state-next s es c.entries.entry-index e (omega (arith, c.entries-test.true)) c.entry-item.is)) row.1;
       counted = λ s given.
-          let row = c.in-Ok.ensures.ok (state_after s (take c.entries.entry-index es)) (c.entries.invariant.stands s given) in
+          let row =
+          c.in-Ok.ensures.ok (state_after s (take c.entries.entry-index es)) (c.entries.invariant.stands s given) in
           let rest : List AuditRow =
           audit_of (state_after s (take (c.entries.entry-index + 1) es)) (drop (c.entries.entry-index + 1) es) in
           ap (count_rows rest) c.in_default-add.ensures.ok

@@ -9,7 +9,8 @@ use Rattle.qq_cluster_queue.proofs.tally.count_entries.Given as goal
 abbrev pub invariant-entries : goal.invariant-entries
 invariant-entries l = record {
   count : queue_applied l.machine ≡ l.index;
-  stands : (s : State) → queue_stands s l.fn.machine → queue_stands (state_after s (take l.entry-index l.entries)) l.machine;
+  stands : (s : State) → queue_stands s l.fn.machine
+      → queue_stands (state_after s (take l.entry-index l.entries)) l.machine;
   counted : (s : State) → queue_stands s l.fn.machine
       → count_rows (audit_of (state_after s (take l.entry-index l.entries)) (drop l.entry-index l.entries)) l.tally
       ≡ count_rows (audit_of s l.entries) l.fn.tally;
