@@ -7,14 +7,15 @@ use Rattle.qq_script_lines.specs.declared.line.ScriptLine.{ScriptLine}
 use Rattle.qq_setup.specs.declared.setup.Setup.{Setup}
 use Rattle.qq_taker.specs.Takers.{Takers}
 use Rattle.qq_taker.specs.declared.handed.Handed.{Handed}
-use Rattle.qq_drill.specs.Drill.{Drill, hear}
+use Rattle.qq_taker.specs.declared.heard.Heard.{Heard}
+use Rattle.qq_drill.specs.Drill.{Drill}
 use Rattle.qq_cluster.specs.Cluster.{Cluster, ClusterEvent, Printed, Setup as ClusterSetup, all_prints, cluster_after, new_cluster}
-use Rattle.qq_cluster.specs.ClusterLaws.{deliveries_heard, delivery_heard}
 use Rattle.qq_cluster.specs.Lines.{IsLine, IsScript}
-use Rattle.qq_cluster.specs.Outcome.{Outcome, takers_after}
+use Rattle.qq_cluster.specs.Outcome.{Outcome, all_heard, deliveries_among, heard_in, takers_after}
 use Rattle.qq_cluster.specs.Rules.{IsNothing, Then}
 use Rattle.qq_cluster.specs.Texts.{text_of}
 use Rattle.qq_cluster_run.proofs.Going.{after-both, prints-both, script-more, text-both}
+use Rattle.qq_cluster_run.proofs.Plays.{among-both, hear-both}
 use Rattle.qq_cluster_run.specs.Drilling.{AreParts, IsPart, Known, begin_part, hear_each, is_led, know, part_lines, tell}
 use Rattle.qq_cluster_run.specs.Playing.{Knows}
 use Rattle.qq_cluster_run.specs.Serving.{Run, after_all, cluster_in, setup_in}
@@ -26,12 +27,12 @@ use Rattle.qq_broker.specs.Lives.{Giving}
 use Rattle.qq_broker.specs.Nodes.{Had, Holds}
 use Rattle.qq_broker.specs.Serving.{IsServed, run_after, with_events}
 
--- a law of clusters: who listens hears what is delivered
+-- a law of clusters: who listens hears what is told
 abbrev pub Hears : Type 0
 Hears =
-    (setup : ClusterSetup) (c : Cluster) (events : List ClusterEvent) (all : Takers) (before : List Handed)
+    (setup : ClusterSetup) (c : Cluster) (events : List ClusterEvent) (all : Takers) (before : List Heard)
     → all.heard ≡ Some before
-    → (takers_after setup c events all).heard ≡ Some (before ++ deliveries_heard (all_prints setup c events))
+    → (takers_after setup c events all).heard ≡ Some (before ++ all_heard (all_prints setup c events))
 
 -- ---- what is known
 
@@ -46,26 +47,26 @@ known-is d e t u m n p q r =
 pub know-none : (S : ClusterSetup) (c : Cluster) (k : Known) → know S c [] k ≡ k
 know-none S c k = known-is k.drill k.drill _ k.text _ k.delivered refl (append-nil k.text) (let e : k.delivered + 0 ≡ k.delivered = omega arith in e)
 
-hear-both : (a b : List Handed) (s : Drill) → hear_each b (hear_each a s) ≡ hear_each (a ++ b) s
-hear-both [] b s = refl
-hear-both (h ∷ a) b s = hear-both a b (hear h.consumer h.delivery.id s)
-
 tell-both : (a b : List Handed) (t u : List ℕ) (k : Known) → tell b u (tell a t k) ≡ tell (a ++ b) (t ++ u) k
 tell-both a b t u k =
     known-is _ _ _ _ _ _ (hear-both a b k.drill) (append_assoc k.text t u)
     (add_assoc k.delivered (length a) (length b) ∙ ap (λ (n : ℕ). k.delivered + n) (sym (length-append a b)))
 
-heard-both : (a b : List Printed) → deliveries_heard (a ++ b) ≡ deliveries_heard a ++ deliveries_heard b
-heard-both a b = filter_map-append delivery_heard a b
+-- the deliveries that events have shown
+abbrev pub shown_in : List Printed → List Handed
+shown_in printed = deliveries_among (all_heard printed)
+
+shown-both : (a b : List Printed) → shown_in (a ++ b) ≡ shown_in a ++ shown_in b
+shown-both a b = ap deliveries_among (filter_map-append heard_in a b) ∙ among-both (all_heard a) (all_heard b)
 
 pub know-both : (S : ClusterSetup) (c : Cluster) (a b : List ClusterEvent) (k : Known)
     → know S (cluster_after c a) b (know S c a k) ≡ know S c (a ++ b) k
 know-both S c a b k =
     let d : Cluster = cluster_after c a in
-    tell-both (deliveries_heard (all_prints S c a)) (deliveries_heard (all_prints S d b)) (text_of S c a) (text_of S d b) k
+    tell-both (shown_in (all_prints S c a)) (shown_in (all_prints S d b)) (text_of S c a) (text_of S d b) k
     ∙ ap (λ (list : List Handed). tell list (text_of S c a ++ text_of S d b) k)
-    (sym (ap deliveries_heard (prints-both S c a b) ∙ heard-both (all_prints S c a) (all_prints S d b)))
-    ∙ ap (λ (text : List ℕ). tell (deliveries_heard (all_prints S c (a ++ b))) text k) (sym (text-both S c a b))
+    (sym (ap shown_in (prints-both S c a b) ∙ shown-both (all_prints S c a) (all_prints S d b)))
+    ∙ ap (λ (text : List ℕ). tell (shown_in (all_prints S c (a ++ b))) text k) (sym (text-both S c a b))
 
 -- ---- one line
 
@@ -135,14 +136,14 @@ module _ {D : Type 0} (given : Giving D) (tells : D → Bool) (past : D → List
   pub line-served : Hears → (run : Run) (line : ScriptLine) (k : Known) (old new : Nodes D) (before mid later : Outcome)
       (play next : Play) → Plays given tells past faults s run old before play k
       → IsServed given tells past faults s run line new before mid
-      → ((list : List Handed) → mid.takers.heard ≡ Some list → IsSilent later)
-      → ((list : List Handed) (x : Known) → mid.takers.heard ≡ Some list → Knows play x
-      → Knows next (tell list mid.text x))
+      → ((list : List Heard) → mid.takers.heard ≡ Some list → IsSilent later)
+      → ((list : List Heard) (x : Known) → mid.takers.heard ≡ Some list → Knows play x
+      → Knows next (tell (deliveries_among list) mid.text x))
       → LinesServed given tells past faults s run (line ∷ []) k new later next
   line-served hears run line k old new before mid later play next so served silent knows =
       let S : ClusterSetup = setup_in s run in
       let c : Cluster = cluster_in s run in
-      let list : List Handed = deliveries_heard (all_prints S c served.more) in
+      let list : List Heard = all_heard (all_prints S c served.more) in
       let heard : mid.takers.heard ≡ Some list =
       ap (λ (t : Takers). t.heard) served.sees ∙ hears S c served.more before.takers [] so.silent.heard in
       let text : mid.text ≡ text_of S c served.more =
@@ -153,7 +154,8 @@ module _ {D : Type 0} (given : Giving D) (tells : D → Bool) (past : D → List
         plays = record {
           holds = holds-as new run (run.events ++ served.more) (run.lines + 1) served.stands;
           silent = silent list heard;
-          knows = subst (λ (t : List ℕ). Knows next (tell list t k)) text (knows list k heard so.knows);
+          knows = subst (λ (t : List ℕ). Knows next (tell (deliveries_among list) t k)) text
+              (knows list k heard so.knows);
         };
       }
 

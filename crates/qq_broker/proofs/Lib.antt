@@ -22,6 +22,7 @@ pub mod Closed
 pub mod Called
 pub mod CallAnswers
 pub mod DrillAudits
+pub mod DrillEnds
 pub mod DrillLoops
 pub mod DrillStops
 pub mod Drilled

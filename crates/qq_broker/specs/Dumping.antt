@@ -1,12 +1,11 @@
 -- What a dump of a node's disk has done.
-use Rattle.std.specs.Prelude.{◌≡◌, ◌⊎◌, ℕ, Bool, List, ◌++◌, Option, IsTrue}
-use Rattle.std.specs.Io.KnownBytes.{Appends, Keeps}
+use Rattle.std.specs.Prelude.{◌≡◌, ◌⊎◌, ℕ, Bool, List, ◌++◌, IsTrue}
 use Rattle.qq_base.specs.Causes.{Rose}
 use Rattle.qq_base.specs.Fronts.{IsFront}
 use Rattle.qq_base.specs.declared.ids.NodeId.{NodeId}
 use Rattle.qq_disk.specs.Disk.{Disk}
 use Rattle.qq_dump.specs.Files.{AreShown, LogFile, dump_text}
-use Rattle.qq_ports.specs.Faults.{AppendsPrefix}
+use Rattle.qq_ports.specs.Streams.{IsUnread, SinkFails, SinkState, Streams, Writes, WritesPart}
 use Rattle.qq_cluster_run.specs.declared.status.TheConstants.{DONE, WRITE_FAULT}
 use Rattle.qq_cluster_run.specs.Endings.{Ending, no_memory, yard_fault}
 use Rattle.qq_cluster_run.specs.Runs.{Closes, IsUnopened}
@@ -18,26 +17,25 @@ abbrev pub IsDumpEnding : Type 0 → Ending → Type 0
 IsDumpEnding disk ending = (disk × (ending ≡ yard_fault)) ⊎ (ending ≡ no_memory)
 
 -- the whole texts of some of these files, from the first on, were written, and then a closing line
-pub record IsCutShort (status : ℕ) (disk sink : Type 0) (files : List LogFile) (old new : Option (List ℕ)) : Type 0
-  where
-    pub front : List LogFile
-    pub is_front : IsFront front files
-    pub ending : Ending
-    pub may : IsDumpEnding disk ending
-    pub closes : Closes status ending sink (λ more. Appends old new (dump_text front ++ more))
+pub record IsCutShort (status : ℕ) (disk : Type 0) (files : List LogFile) (before later : SinkState) : Type 0 where
+  pub front : List LogFile
+  pub is_front : IsFront front files
+  pub ending : Ending
+  pub may : IsDumpEnding disk ending
+  pub closes : Closes status ending before later (λ more. Writes before later (dump_text front ++ more))
 
 -- The text of these files was written, all of it or as far as it came: the sink has failed in it, or a closing line
 -- stands behind whole files.
-abbrev pub HasDumped : ℕ → (disk sink : Type 0) → List LogFile → (old new : Option (List ℕ)) → Type 0
-HasDumped status disk sink files old new =
-    ((status ≡ DONE) × Appends old new (dump_text files))
-    ⊎ (((status ≡ WRITE_FAULT) × sink × AppendsPrefix old new (dump_text files))
-    ⊎ IsCutShort status disk sink files old new)
+abbrev pub HasDumped : (status : ℕ) → (disk : Type 0) → List LogFile → (before later : SinkState) → Type 0
+HasDumped status disk files before later =
+    ((status ≡ DONE) × Writes before later (dump_text files))
+    ⊎ (((status ≡ WRITE_FAULT) × SinkFails before later × WritesPart before later (dump_text files))
+    ⊎ IsCutShort status disk files before later)
 
--- The yard gave a disk for the node under the run's root, and the text of the log files that it shows was written. Nothing
--- was read, and what the disk holds is as it was.
+-- The yard gave a disk for the node under the run's root, and the text of the log files that it shows was written.
+-- Nothing was read, and what the disk holds is as it was.
 pub record IsDumped {D : Type 0} (given : Giving D) (tells : D → Bool) (past : D → List Disk) (faults : D → ℕ)
-    (status : ℕ) (node : NodeId) (left rest old new : Option (List ℕ)) (sink : Type 0) : Type 0 where
+    (status : ℕ) (node : NodeId) (before later : Streams) : Type 0 where
   pub first : D
   pub given_is : IsGiven given tells past node.0 first
   pub last : D
@@ -45,13 +43,13 @@ pub record IsDumped {D : Type 0} (given : Giving D) (tells : D → Bool) (past :
   pub same : IsTrue (tells first) → past last ≡ past first
   pub files : List LogFile
   pub shown : AreShown tells past first files
-  pub keeps : Keeps left rest
-  pub has : HasDumped status (Rose (faults first) (faults last)) sink files old new
+  pub keeps : IsUnread before later
+  pub has : HasDumped status (Rose (faults first) (faults last)) files before.sink later.sink
 
--- What a dump has done that ends with this status, where the yard counted so many faults before and after: the yard gave
--- no disk, or the text of one was written.
+-- What a dump has done that ends with this status, where the yard counted so many faults at first and in the end: the
+-- yard gave no disk, or the text of one was written.
 abbrev pub DumpEnds : {D : Type 0} → Giving D → (D → Bool) → (D → List Disk) → (D → ℕ) → (status : ℕ) → NodeId
-    → (left rest old new : Option (List ℕ)) → (sink : Type 0) → (before after : ℕ) → Type 0
-DumpEnds given tells past faults status node left rest old new sink before after =
-    IsUnopened status left rest old new sink (IsYardEnding before after)
-    ⊎ IsDumped given tells past faults status node left rest old new sink
+    → (before later : Streams) → (yard yard' : ℕ) → Type 0
+DumpEnds given tells past faults status node before later yard yard' =
+    IsUnopened status before later (IsYardEnding yard yard')
+    ⊎ IsDumped given tells past faults status node before later

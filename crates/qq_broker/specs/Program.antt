@@ -2,9 +2,9 @@
 use Rattle.std.specs.Prelude.{◌≡◌, ℕ, Bool, List, Option, Some, None}
 use Rattle.qq_disk.specs.Disk.{Disk}
 use Rattle.qq_taker.specs.Takers.{Takers}
+use Rattle.qq_ports.specs.Streams.{ShelfState, Streams}
 use Rattle.qq_words.specs.declared.commands.Command.{Command}
 use Rattle.qq_words.specs.declared.commands.Command.TheVariants.{Script, Dump, Drill}
-use Rattle.qq_cluster_run.specs.Definitions.{Files}
 use Rattle.qq_cluster_run.specs.Drills.{DrillEnds}
 use Rattle.qq_cluster_run.specs.Runs.{RunEnds}
 use Rattle.qq_broker.specs.Dumping.{DumpEnds}
@@ -12,24 +12,34 @@ use Rattle.qq_broker.specs.Lives.{under}
 use Rattle.qq_broker.specs.Nodes.{Had, Meets}
 use Rattle.qq_broker.specs.Takers.{RunClaims, RunMeets}
 
--- What a run has done that ends with this status: a script over the disks of its root, or new ones without a root; a dump of
--- a node's disk under a root; a drill over new disks, without takers; or the words are no command. The yard counted so many faults before and after, and these
--- were the takers at first and in the end.
+-- What stands outside of a run at a moment: its streams, its shelf, how often its yard has failed, and its takers.
+pub record Outside : Type 0 where
+  pub streams : Streams
+  pub shelf : ShelfState
+  pub yard : ℕ
+  pub takers : Takers
+
+abbrev pub outside : Streams → ShelfState → (yard : ℕ) → Takers → Outside
+outside streams shelf yard takers = record { streams = streams; shelf = shelf; yard = yard; takers = takers }
+
+-- What a run has done that ends with this status: a script over the disks of its root, or new ones without a root; a
+-- dump of a node's disk under a root; a drill over new disks, without takers; or the words are no command.
 abbrev pub ProgramEnds : {D : Type 0} → (Option (List ℕ) → ℕ → D → Bool) → (D → Bool) → (D → List Disk) → (D → ℕ)
-    → (status : ℕ) → Option Command → Files → (left rest old new : Option (List ℕ)) → (source shelf sink : Type 0)
-    → (before after : ℕ) → (first last : Takers) → Type 0
-ProgramEnds is_given tells past faults status (Some (Script options)) files left rest old new source shelf sink before after first last =
-    RunEnds status (Some options) files left rest old new source shelf sink
-    (RunMeets (under is_given options.root) tells past faults first before after)
-    (RunClaims (under is_given options.root) tells past faults first last)
-ProgramEnds is_given tells past faults status (Some (Dump root node)) files left rest old new source shelf sink before after first last =
-    DumpEnds (under is_given (Some root)) tells past faults status node left rest old new sink before after
-    × (last ≡ first)
-ProgramEnds is_given tells past faults status (Some (Drill number nodes)) files left rest old new source shelf sink before after first last =
-    DrillEnds status number nodes left rest old new sink (Meets (under is_given None) tells past faults before after)
-    (Had (under is_given None) tells past faults)
-    × (last ≡ first)
-ProgramEnds is_given tells past faults status None files left rest old new source shelf sink before after first last =
-    RunEnds status None files left rest old new source shelf sink
-    (RunMeets (under is_given None) tells past faults first before after)
-    (RunClaims (under is_given None) tells past faults first last) × (last ≡ first)
+    → (status : ℕ) → Option Command → (before later : Outside) → Type 0
+ProgramEnds is_given tells past faults status (Some (Script options)) before later =
+    RunEnds status (Some options) before.shelf later.shelf before.streams later.streams
+    (RunMeets (under is_given options.root) tells past faults before.takers before.yard later.yard)
+    (RunClaims (under is_given options.root) tells past faults before.takers later.takers)
+ProgramEnds is_given tells past faults status (Some (Dump root node)) before later =
+    DumpEnds (under is_given (Some root)) tells past faults status node before.streams later.streams before.yard
+    later.yard
+    × (later.takers ≡ before.takers)
+ProgramEnds is_given tells past faults status (Some (Drill number nodes)) before later =
+    DrillEnds status number nodes before.streams later.streams
+    (Meets (under is_given None) tells past faults before.yard later.yard) (Had (under is_given None) tells past faults)
+    × (later.takers ≡ before.takers)
+ProgramEnds is_given tells past faults status None before later =
+    RunEnds status None before.shelf later.shelf before.streams later.streams
+    (RunMeets (under is_given None) tells past faults before.takers before.yard later.yard)
+    (RunClaims (under is_given None) tells past faults before.takers later.takers)
+    × (later.takers ≡ before.takers)

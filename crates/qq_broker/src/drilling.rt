@@ -1,10 +1,11 @@
 //! The nodes of a drill serve its parts.
 ghost use Rattle.std.specs.Prelude.{◌≡◌, ◌≤◌, ◌∷◌, [], List, Some, Contains, IfErr, IfOk, IfSome, IsOkUnless, OnOk, map};
+ghost use Rattle.qq_cluster.specs.Outcome.{deliveries_among};
 ghost use Rattle.qq_cluster_run.specs.Drilling.{Known, is_led, tell};
 ghost use Rattle.qq_cluster_run.specs.Drills.{StopsNext};
 ghost use Rattle.qq_cluster_run.specs.Playing.{Knows};
 ghost use Rattle.qq_cluster_run.specs.Serving.{Run, cluster_in, setup_in};
-ghost use Rattle.qq_taker.specs.declared.handed.Handed.{Handed};
+ghost use Rattle.qq_taker.specs.declared.heard.Heard.{Heard};
 ghost use Rattle.qq_broker.specs.Drilling.{IsSilent, LinesServed, LinesStop, PartStops, PartsDone, PartsStop, Plays, ending_at};
 ghost use Rattle.qq_broker.specs.Lives.{Giving};
 ghost use Rattle.qq_broker.specs.Nodes.{Holds, MayRun, Meets};
@@ -12,7 +13,7 @@ ghost use Rattle.qq_broker.specs.Nodes.{Holds, MayRun, Meets};
 use crate::serving::serve_free;
 use crate::stopping::step_stop;
 use qq_base::Memory;
-use qq_cluster::who_listens_hears_what_is_delivered;
+use qq_cluster::who_listens_hears_what_is_told;
 use qq_cluster_queue::Told;
 use qq_cluster_run::{AskStop, Part, Play, is_named, is_place};
 use qq_disk::NodeDisk;
@@ -29,10 +30,11 @@ pub(crate) fn tell<T: Taker>(
     told: &mut Told<T>,
     play: &mut Play,
 ) -> Result<(), Memory>
-    ensures silent { (list : List Handed) → told.old.takers.heard ≡ Some list →
+    ensures silent { (list : List Heard) → told.old.takers.heard ≡ Some list →
         OnOk result (IsSilent told.new) }
-    ensures ok { (list : List Handed) (k : Known) → told.old.takers.heard ≡ Some list →
-        Knows play.old k → OnOk result (Knows play.new (tell list told.old.text k)) }
+    ensures ok { (list : List Heard) (k : Known) → told.old.takers.heard ≡ Some list →
+        Knows play.old k →
+        OnOk result (Knows play.new (tell (deliveries_among list) told.old.text k)) }
     ensures want { IsOkUnless result Memory.Want }
 {
     let Some(heard) = told.take_heard(alloc) else {
@@ -70,7 +72,7 @@ fn play_line<Y: Yard, T: Taker>(
         (ending_at stop)) }
     ensures later { Y.faults yard.old ≤ Y.faults yard.new }
 {
-    who_listens_hears_what_is_delivered();
+    who_listens_hears_what_is_told();
     let named = is_named(setup, &line);
     if !named {
         drop(line);

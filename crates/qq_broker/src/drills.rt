@@ -1,17 +1,15 @@
 //! A drill is run.
-ghost use Rattle.std.specs.Prelude.{◌≡◌, ◌≤◌, ◌++◌, List, ℕ, None, Option, IfErr, IfOk, IsOkUnless, OnOk, count_by, flat_map, length, nat_eq};
-ghost use Rattle.std.specs.Io.KnownBytes.{Appends};
+ghost use Rattle.std.specs.Prelude.{◌≡◌, ◌≤◌, ◌++◌, List, ℕ, None, IfOk, OnOk};
 ghost use Rattle.sha2.specs.Hashers.{Holds256};
-ghost use Rattle.qq_base.specs.Causes.{Rose};
+ghost use Rattle.qq_ports.specs.Streams.{SourceState, beside, sink_state};
 ghost use Rattle.qq_cluster.specs.Texts.{audits_text};
-ghost use Rattle.qq_cluster_queue.specs.Marks.{mark_of};
+ghost use Rattle.qq_cluster_queue.specs.Tally.{count_rows};
 ghost use Rattle.qq_cluster_run.specs.Drilling.{Known, all_rows, drill_text, first_known, parts};
-ghost use Rattle.qq_cluster_run.specs.Drills.{DrillEnds, HasDrilled};
+ghost use Rattle.qq_cluster_run.specs.Drills.{DrillEnds, HasDrilled, HasSummary};
 ghost use Rattle.qq_cluster_run.specs.Playing.{Knows};
 ghost use Rattle.qq_cluster_run.specs.Serving.{Run, cluster_in, setup_in};
-ghost use Rattle.qq_setup.specs.Setup.{state_of};
-ghost use Rattle.qq_broker.specs.Drilling.{PartsStop, Plays};
-ghost use Rattle.qq_broker.specs.Drills.{HasPlayed, HasSummary};
+ghost use Rattle.qq_broker.specs.Drilling.{Plays};
+ghost use Rattle.qq_broker.specs.Drills.{HasPlayed};
 ghost use Rattle.qq_broker.specs.Lives.{Giving, under};
 ghost use Rattle.qq_broker.specs.Nodes.{Had, Holds, MayRun, Meets};
 
@@ -19,10 +17,10 @@ use crate::drilling::{play_parts, tell};
 use crate::opening::open;
 use crate::program::close;
 use qq_base::Memory;
-use qq_cluster::who_listens_hears_what_is_delivered;
-use qq_cluster_queue::Told;
+use qq_cluster::who_listens_hears_what_is_told;
+use qq_cluster_queue::{Tally, Told};
 use qq_cluster_run::status::{DONE, WRITE_FAULT};
-use qq_cluster_run::{AskStop, Ending, Part, Play, Stop, drill_setup, parts, summary};
+use qq_cluster_run::{Ending, Part, Play, Stop, drill_setup, parts, summary};
 use qq_disk::NodeDisk;
 use qq_nodes::Nodes;
 use qq_ports::{Sink, Yard, write_all};
@@ -32,13 +30,15 @@ use qq_words::NodeCount;
 use sha2::{Digest, Sha256};
 use std::alloc::Global;
 
-// The audits of all queues go into a digest, and their rows are marked.
+// ---- what is written of it
+
+// The audits of all queues go into a digest, and their rows are counted.
 fn add_audits<D: NodeDisk>(
     alloc: Global,
     setup: &Setup,
     nodes: &Nodes<D>,
     digest: &mut Sha256,
-    marks: &mut Vec<u8>,
+    tally: &mut Tally,
 ) -> Result<(), Memory>
     requires may { MayRun setup.now }
     requires holds { (given : Giving D) × ((run : Run)
@@ -47,10 +47,10 @@ fn add_audits<D: NodeDisk>(
         Holds given D.tells D.past D.faults setup.now nodes.now run →
         Holds256 digest.old text → OnOk result (Holds256 digest.new
         (text ++ audits_text (setup_in setup.now run) (cluster_in setup.now run))) }
-    ensures marks { (given : Giving D) (run : Run) →
+    ensures tally { (given : Giving D) (run : Run) →
         Holds given D.tells D.past D.faults setup.now nodes.now run →
-        OnOk result (marks.new.items ≡ marks.old.items
-        ++ flat_map mark_of (all_rows (setup_in setup.now run) (cluster_in setup.now run))) }
+        OnOk result (tally.new ≡ count_rows
+        (all_rows (setup_in setup.now run) (cluster_in setup.now run)) tally.old) }
 {
     let rows = setup.queues.as_slice();
     for row in rows {
@@ -59,18 +59,11 @@ fn add_audits<D: NodeDisk>(
             return Err(cause);
         }
         digest.update(text.as_slice());
-        if let Err(cause) = nodes.audit_marks(alloc, row.args.queue, marks) {
+        if let Err(cause) = nodes.count_rows(alloc, row.args.queue, tally) {
             return Err(cause);
         }
     }
     Ok(())
-}
-
-// How many of the marks are 1.
-fn count_ones(marks: &[u8]) -> u64
-    ensures { result ≡ count_by (λ mark. nat_eq mark 1) marks.now }
-{
-    marks.iter().filter(|mark| **mark == 1).count() as u64
 }
 
 // The line that is written of a drill.
@@ -95,21 +88,18 @@ fn finish<D: NodeDisk>(
         delivered,
     } = play;
     drop(drill);
-    let mut marks = Vec::new(alloc);
-    if let Err(cause) = add_audits(alloc, setup, nodes, &mut digest, &mut marks) {
+    let mut tally = Tally::new();
+    if let Err(cause) = add_audits(alloc, setup, nodes, &mut digest, &mut tally) {
         return Err(cause);
     }
-    let rows = marks.len() as u64;
-    let confirmed = count_ones(marks.as_slice());
-    drop(marks);
-    summary(alloc, number, rows, confirmed, delivered, digest.finalize())
+    summary(alloc, number, tally.rows, tally.confirmed, delivered, digest.finalize())
 }
 
 // The line of a drill is written, or that there was no memory for it.
 fn write_summary<O: Sink>(output: &mut O, line: Result<Vec<u8>, Memory>) -> u8
     ensures written { (text : List ℕ) → IfOk line (λ line. line.items ≡ text) →
-        HasSummary result text (O.written output.old) (O.written output.new)
-        (Rose (O.faults output.old) (O.faults output.new)) }
+        HasSummary result text (sink_state O.written O.faults output.old)
+        (sink_state O.written O.faults output.new) }
     ensures later { O.faults output.old ≤ O.faults output.new }
 {
     match line {
@@ -141,8 +131,7 @@ fn serve_drill<Y: Yard, T: Taker, O: Sink>(
         Plays given Y.Disk.tells Y.Disk.past Y.Disk.faults setup.now run nodes.old told.old
         play k → HasPlayed given Y.Disk.tells Y.Disk.past Y.Disk.faults (Y.faults yard.old)
         (Y.faults yard.new) setup.now run parts.now k number result
-        (O.written output.old) (O.written output.new)
-        (Rose (O.faults output.old) (O.faults output.new)) }
+        (sink_state O.written O.faults output.old) (sink_state O.written O.faults output.new) }
     ensures sink_later { O.faults output.old ≤ O.faults output.new }
     ensures yard_later { Y.faults yard.old ≤ Y.faults yard.new }
 {
@@ -169,16 +158,15 @@ fn open_drill<Y: Yard, T: Taker, O: Sink>(
     requires may { MayRun setup.now }
     requires parts { parts.now ≡ parts setup.now.nodes }
     requires knows { Knows play (first_known number setup.now.nodes) }
-    ensures ends { (left : Option (List ℕ)) → HasDrilled result number setup.now left left
-        (O.written output.old) (O.written output.new)
-        (Rose (O.faults output.old) (O.faults output.new))
+    ensures ends { (source : SourceState) → HasDrilled result number setup.now
+        (beside source O.written O.faults output.old) (beside source O.written O.faults output.new)
         (Meets (under Y.is_given None) Y.Disk.tells Y.Disk.past Y.Disk.faults
         (Y.faults yard.old) (Y.faults yard.new))
         (Had (under Y.is_given None) Y.Disk.tells Y.Disk.past Y.Disk.faults) }
     ensures sink_later { O.faults output.old ≤ O.faults output.new }
     ensures yard_later { Y.faults yard.old ≤ Y.faults yard.new }
 {
-    who_listens_hears_what_is_delivered();
+    who_listens_hears_what_is_told();
     let mut play = play;
     let mut told = Told::new(alloc, Desk::<T>::new(alloc));
     told.listen(alloc);
@@ -206,9 +194,8 @@ fn begin_drill<Y: Yard, T: Taker, O: Sink>(
     output: &mut O,
 ) -> u8
     requires may { MayRun setup.now }
-    ensures ends { (left : Option (List ℕ)) → HasDrilled result number setup.now left left
-        (O.written output.old) (O.written output.new)
-        (Rose (O.faults output.old) (O.faults output.new))
+    ensures ends { (source : SourceState) → HasDrilled result number setup.now
+        (beside source O.written O.faults output.old) (beside source O.written O.faults output.new)
         (Meets (under Y.is_given None) Y.Disk.tells Y.Disk.past Y.Disk.faults
         (Y.faults yard.old) (Y.faults yard.new))
         (Had (under Y.is_given None) Y.Disk.tells Y.Disk.past Y.Disk.faults) }
@@ -228,7 +215,7 @@ fn begin_drill<Y: Yard, T: Taker, O: Sink>(
 
 /// Runs the drill of a number over so many nodes, in memory, and writes its line.
 ///
-/// - `ends`: what it has done that ends with this status, whatever a source has: nothing is read.
+/// - `ends`: what it has done that ends with this status, whatever stands in a source: nothing is read.
 pub(crate) fn run_drill<Y: Yard, T: Taker, O: Sink>(
     alloc: Global,
     number: u64,
@@ -236,9 +223,8 @@ pub(crate) fn run_drill<Y: Yard, T: Taker, O: Sink>(
     yard: &mut Y,
     output: &mut O,
 ) -> u8
-    ensures ends { (left : Option (List ℕ)) → DrillEnds result number nodes left left
-        (O.written output.old) (O.written output.new)
-        (Rose (O.faults output.old) (O.faults output.new))
+    ensures ends { (source : SourceState) → DrillEnds result number nodes
+        (beside source O.written O.faults output.old) (beside source O.written O.faults output.new)
         (Meets (under Y.is_given None) Y.Disk.tells Y.Disk.past Y.Disk.faults
         (Y.faults yard.old) (Y.faults yard.new))
         (Had (under Y.is_given None) Y.Disk.tells Y.Disk.past Y.Disk.faults) }

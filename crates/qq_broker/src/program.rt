@@ -1,18 +1,15 @@
-ghost use Rattle.std.specs.Prelude.{◌≡◌, ◌⊎◌, ◌≤◌, ◌<◌, ◌++◌, ℕ, List, [], None, Some, map, string_bytes, IfOk, IfErr, IfSome, OnOk, OnErr};
-ghost use Rattle.std.specs.Io.KnownBytes.{Appends};
-ghost use Rattle.qq_base.specs.Causes.{Rose};
+ghost use Rattle.std.specs.Prelude.{◌≡◌, ◌≤◌, ◌<◌, ◌++◌, ℕ, List, [], None, Some, map, string_bytes, IfOk, IfErr, IfSome, OnOk, OnErr};
 ghost use Rattle.qq_cluster.specs.Texts.{audits_text};
 ghost use Rattle.qq_cluster_run.specs.Answers.{Answers, HasAnswerCause, IsServedToEnd};
-ghost use Rattle.qq_cluster_run.specs.Endings.{no_memory};
-ghost use Rattle.qq_cluster_run.specs.Pieces.{HasSomePrefix, HasPrintCause};
-ghost use Rattle.qq_cluster_run.specs.Runs.{HasStopped, IsBehindMade, IsCutInMade, IsDone, IsUnopened, Closes, HasRun, RunEnds};
+ghost use Rattle.qq_cluster_run.specs.Runs.{HasStopped, IsDone, Closes, HasBegun, HasRun, RunEnds};
 ghost use Rattle.qq_cluster_run.specs.Service.{HasOpened};
 ghost use Rattle.qq_cluster_run.specs.Serving.{Run, cluster_in, setup_in};
 ghost use Rattle.qq_cluster_run.specs.declared.status.TheConstants.{DONE};
+ghost use Rattle.qq_ports.specs.Streams.{AreLater, Writes, shelf_state, sink_state, streams};
 ghost use Rattle.qq_words.specs.Words.{read_words};
 ghost use Rattle.qq_broker.specs.Lives.{Giving, under};
 ghost use Rattle.qq_broker.specs.Nodes.{Had, Holds, MayRun};
-ghost use Rattle.qq_broker.specs.Program.{ProgramEnds};
+ghost use Rattle.qq_broker.specs.Program.{ProgramEnds, outside};
 ghost use Rattle.qq_broker.specs.Takers.{HoldsAll, IsRefusedBy, RunClaims, RunHad, RunMeets};
 ghost use Rattle.qq_taker.specs.Takers.{Takers};
 
@@ -98,21 +95,20 @@ fn serve_lines<Y: Yard, T: Taker, I: Source, O: Sink>(
         (RunHad given Y.Disk.tells Y.Disk.past Y.Disk.faults first) setup.now
         (HoldsAll given Y.Disk.tells Y.Disk.past Y.Disk.faults setup.now first nodes.new
         told.new.takers)
-        (I.left input.old) (I.left input.new)
-        (O.written output.old) (O.written output.new)) }
+        (streams I.left I.faults O.written O.faults input.old output.old)
+        (streams I.left I.faults O.written O.faults input.new output.new)) }
     ensures cause { (given : Giving Y.Disk) (first : Takers) →
         HasOpened (Had given Y.Disk.tells Y.Disk.past Y.Disk.faults) setup.now
         (Holds given Y.Disk.tells Y.Disk.past Y.Disk.faults setup.now nodes.old)
         (record { text = []; takers = first }) told.old →
-        IfErr result (λ stop. HasStopped stop setup.now (I.left input.old)
-        (I.left input.new) (O.written output.old) (O.written output.new)
-        (Rose (I.faults input.old) (I.faults input.new))
-        (Rose (O.faults output.old) (O.faults output.new))
+        IfErr result (λ stop. HasStopped stop setup.now
+        (streams I.left I.faults O.written O.faults input.old output.old)
+        (streams I.left I.faults O.written O.faults input.new output.new)
         (RunMeets given Y.Disk.tells Y.Disk.past Y.Disk.faults first
         (Y.faults yard.old) (Y.faults yard.new))
         (RunClaims given Y.Disk.tells Y.Disk.past Y.Disk.faults first told.new.takers) []) }
-    ensures source_later { I.faults input.old ≤ I.faults input.new }
-    ensures sink_later { O.faults output.old ≤ O.faults output.new }
+    ensures later { AreLater (streams I.left I.faults O.written O.faults input.old output.old)
+        (streams I.left I.faults O.written O.faults input.new output.new) }
     ensures yard_later { Y.faults yard.old ≤ Y.faults yard.new }
 {
     lines_law();
@@ -160,20 +156,20 @@ fn serve_script<Y: Yard, T: Taker, I: Source, O: Sink>(
         (record { text = []; takers = first }) told.old →
         OnOk result (IsDone DONE (RunClaims given Y.Disk.tells Y.Disk.past Y.Disk.faults first
         told.new.takers) setup.now
-        (I.left input.old) (I.left input.new) (O.written output.old) (O.written output.new)) }
+        (streams I.left I.faults O.written O.faults input.old output.old)
+        (streams I.left I.faults O.written O.faults input.new output.new)) }
     ensures cause { (given : Giving Y.Disk) (first : Takers) →
         HasOpened (Had given Y.Disk.tells Y.Disk.past Y.Disk.faults) setup.now
         (Holds given Y.Disk.tells Y.Disk.past Y.Disk.faults setup.now nodes.old)
         (record { text = []; takers = first }) told.old →
-        IfErr result (λ stop. HasStopped stop setup.now (I.left input.old)
-        (I.left input.new) (O.written output.old) (O.written output.new)
-        (Rose (I.faults input.old) (I.faults input.new))
-        (Rose (O.faults output.old) (O.faults output.new))
+        IfErr result (λ stop. HasStopped stop setup.now
+        (streams I.left I.faults O.written O.faults input.old output.old)
+        (streams I.left I.faults O.written O.faults input.new output.new)
         (RunMeets given Y.Disk.tells Y.Disk.past Y.Disk.faults first
         (Y.faults yard.old) (Y.faults yard.new))
         (RunClaims given Y.Disk.tells Y.Disk.past Y.Disk.faults first told.new.takers) []) }
-    ensures source_later { I.faults input.old ≤ I.faults input.new }
-    ensures sink_later { O.faults output.old ≤ O.faults output.new }
+    ensures later { AreLater (streams I.left I.faults O.written O.faults input.old output.old)
+        (streams I.left I.faults O.written O.faults input.new output.new) }
     ensures yard_later { Y.faults yard.old ≤ Y.faults yard.new }
 {
     match serve_lines(alloc, setup, nodes, yard, told, input, output) {
@@ -191,8 +187,9 @@ fn serve_script<Y: Yard, T: Taker, I: Source, O: Sink>(
 
 /// Writes the closing line, and says with which status the run ends.
 pub fn close<O: Sink>(output: &mut O, ending: Ending) -> u8
-    ensures closes { Closes result ending (Rose (O.faults output.old) (O.faults output.new))
-        (λ more. Appends (O.written output.old) (O.written output.new) more) }
+    ensures closes { Closes result ending (sink_state O.written O.faults output.old)
+        (sink_state O.written O.faults output.new) (Writes (sink_state O.written O.faults output.old)
+        (sink_state O.written O.faults output.new)) }
     ensures later { O.faults output.old ≤ O.faults output.new }
 {
     match ending.write(output) {
@@ -213,16 +210,15 @@ fn open_told<Y: Yard, T: Taker, I: Source, O: Sink>(
 ) -> u8
     requires may { MayRun setup.now }
     requires empty { told.old.text ≡ [] }
-    ensures ends { HasRun result setup.now (I.left input.old) (I.left input.new)
-        (O.written output.old) (O.written output.new)
-        (Rose (I.faults input.old) (I.faults input.new))
-        (Rose (O.faults output.old) (O.faults output.new))
+    ensures ends { HasRun result setup.now
+        (streams I.left I.faults O.written O.faults input.old output.old)
+        (streams I.left I.faults O.written O.faults input.new output.new)
         (RunMeets (under Y.is_given root.now) Y.Disk.tells Y.Disk.past Y.Disk.faults
         told.old.takers (Y.faults yard.old) (Y.faults yard.new))
         (RunClaims (under Y.is_given root.now) Y.Disk.tells Y.Disk.past Y.Disk.faults
         told.old.takers told.new.takers) }
-    ensures source_later { I.faults input.old ≤ I.faults input.new }
-    ensures sink_later { O.faults output.old ≤ O.faults output.new }
+    ensures later { AreLater (streams I.left I.faults O.written O.faults input.old output.old)
+        (streams I.left I.faults O.written O.faults input.new output.new) }
     ensures yard_later { Y.faults yard.old ≤ Y.faults yard.new }
 {
     let mut nodes = match open(alloc, setup, root, yard, told) {
@@ -246,16 +242,15 @@ fn open_script<Y: Yard, T: Taker, I: Source, O: Sink>(
     output: &mut O,
 ) -> u8
     requires { MayRun setup.now }
-    ensures ends { HasRun result setup.now (I.left input.old) (I.left input.new)
-        (O.written output.old) (O.written output.new)
-        (Rose (I.faults input.old) (I.faults input.new))
-        (Rose (O.faults output.old) (O.faults output.new))
+    ensures ends { HasRun result setup.now
+        (streams I.left I.faults O.written O.faults input.old output.old)
+        (streams I.left I.faults O.written O.faults input.new output.new)
         (RunMeets (under Y.is_given root.now) Y.Disk.tells Y.Disk.past Y.Disk.faults
         takers.old (Y.faults yard.old) (Y.faults yard.new))
         (RunClaims (under Y.is_given root.now) Y.Disk.tells Y.Disk.past Y.Disk.faults
         takers.old takers.new) }
-    ensures source_later { I.faults input.old ≤ I.faults input.new }
-    ensures sink_later { O.faults output.old ≤ O.faults output.new }
+    ensures later { AreLater (streams I.left I.faults O.written O.faults input.old output.old)
+        (streams I.left I.faults O.written O.faults input.new output.new) }
     ensures yard_later { Y.faults yard.old ≤ Y.faults yard.new }
 {
     let mut text = Vec::new(alloc);
@@ -276,22 +271,15 @@ fn begin_script<Y: Yard, T: Taker, I: Source, O: Sink>(
     output: &mut O,
 ) -> u8
     requires { MayRun setup.now }
-    ensures ends { IsUnopened result (I.left input.old) (I.left input.new)
-        (O.written output.old) (O.written output.new)
-        (Rose (O.faults output.old) (O.faults output.new)) (λ ending. ending ≡ no_memory)
-        ⊎ (IsCutInMade result setup.now (I.left input.old) (I.left input.new)
-        (O.written output.old) (O.written output.new)
-        (Rose (O.faults output.old) (O.faults output.new))
-        ⊎ IsBehindMade result setup.now (I.left input.old) (I.left input.new)
-        (O.written output.old) (O.written output.new)
-        (Rose (I.faults input.old) (I.faults input.new))
-        (Rose (O.faults output.old) (O.faults output.new))
+    ensures ends { HasBegun result setup.now
+        (streams I.left I.faults O.written O.faults input.old output.old)
+        (streams I.left I.faults O.written O.faults input.new output.new)
         (RunMeets (under Y.is_given root.now) Y.Disk.tells Y.Disk.past Y.Disk.faults
         takers.old (Y.faults yard.old) (Y.faults yard.new))
         (RunClaims (under Y.is_given root.now) Y.Disk.tells Y.Disk.past Y.Disk.faults
-        takers.old takers.new)) }
-    ensures source_later { I.faults input.old ≤ I.faults input.new }
-    ensures sink_later { O.faults output.old ≤ O.faults output.new }
+        takers.old takers.new) }
+    ensures later { AreLater (streams I.left I.faults O.written O.faults input.old output.old)
+        (streams I.left I.faults O.written O.faults input.new output.new) }
     ensures yard_later { Y.faults yard.old ≤ Y.faults yard.new }
 {
     match write_made(alloc, &setup.made, output) {
@@ -311,17 +299,16 @@ fn run_script<S: Shelf, Y: Yard, T: Taker, I: Source, O: Sink>(
     yard: &mut Y,
     takers: &mut Desk<T>,
 ) -> u8
-    ensures ends { RunEnds result (Some options.now) (S.files shelf.old)
-        (I.left input.old) (I.left input.new) (O.written output.old) (O.written output.new)
-        (Rose (I.faults input.old) (I.faults input.new))
-        (Rose (S.faults shelf.old) (S.faults shelf.new))
-        (Rose (O.faults output.old) (O.faults output.new))
+    ensures ends { RunEnds result (Some options.now)
+        (shelf_state S.files S.faults shelf.old) (shelf_state S.files S.faults shelf.new)
+        (streams I.left I.faults O.written O.faults input.old output.old)
+        (streams I.left I.faults O.written O.faults input.new output.new)
         (RunMeets (under Y.is_given options.now.root) Y.Disk.tells Y.Disk.past Y.Disk.faults
         takers.old (Y.faults yard.old) (Y.faults yard.new))
         (RunClaims (under Y.is_given options.now.root) Y.Disk.tells Y.Disk.past Y.Disk.faults
         takers.old takers.new) }
-    ensures source_later { I.faults input.old ≤ I.faults input.new }
-    ensures sink_later { O.faults output.old ≤ O.faults output.new }
+    ensures later { AreLater (streams I.left I.faults O.written O.faults input.old output.old)
+        (streams I.left I.faults O.written O.faults input.new output.new) }
     ensures shelf_later { S.faults shelf.old ≤ S.faults shelf.new }
     ensures yard_later { Y.faults yard.old ≤ Y.faults yard.new }
 {
@@ -342,14 +329,13 @@ fn run_command<S: Shelf, Y: Yard, T: Taker, I: Source, O: Sink>(
     takers: &mut Desk<T>,
 ) -> u8
     ensures ends { ProgramEnds Y.is_given Y.Disk.tells Y.Disk.past Y.Disk.faults result
-        (Some command.now) (S.files shelf.old) (I.left input.old) (I.left input.new)
-        (O.written output.old) (O.written output.new)
-        (Rose (I.faults input.old) (I.faults input.new))
-        (Rose (S.faults shelf.old) (S.faults shelf.new))
-        (Rose (O.faults output.old) (O.faults output.new))
-        (Y.faults yard.old) (Y.faults yard.new) takers.old takers.new }
-    ensures source_later { I.faults input.old ≤ I.faults input.new }
-    ensures sink_later { O.faults output.old ≤ O.faults output.new }
+        (Some command.now)
+        (outside (streams I.left I.faults O.written O.faults input.old output.old)
+        (shelf_state S.files S.faults shelf.old) (Y.faults yard.old) takers.old)
+        (outside (streams I.left I.faults O.written O.faults input.new output.new)
+        (shelf_state S.files S.faults shelf.new) (Y.faults yard.new) takers.new) }
+    ensures later { AreLater (streams I.left I.faults O.written O.faults input.old output.old)
+        (streams I.left I.faults O.written O.faults input.new output.new) }
     ensures shelf_later { S.faults shelf.old ≤ S.faults shelf.new }
     ensures yard_later { Y.faults yard.old ≤ Y.faults yard.new }
 {
@@ -378,7 +364,7 @@ fn run_command<S: Shelf, Y: Yard, T: Taker, I: Source, O: Sink>(
 ///   gave to a consumer was free then, and once all is served, or the next line is refused, the takers have seen what the
 ///   events show (`RunClaims`). Each trouble was met in the yard, in such a disk, in the nodes or with the takers
 ///   (`RunMeets`). A dump reads no input and changes nothing on the disk.
-/// - `source_later`, `sink_later`, `shelf_later`, `yard_later`: the counts of faults don't fall.
+/// - `later`, `shelf_later`, `yard_later`: the counts of faults don't fall.
 pub fn run<R: AllocGlobal, I: Source, O: Sink, S: Shelf, Y: Yard, T: Taker>(
     rt: &R,
     words: &[String],
@@ -389,14 +375,13 @@ pub fn run<R: AllocGlobal, I: Source, O: Sink, S: Shelf, Y: Yard, T: Taker>(
     takers: &mut Desk<T>,
 ) -> u8
     ensures ends { ProgramEnds Y.is_given Y.Disk.tells Y.Disk.past Y.Disk.faults result
-        (read_words (map string_bytes words.now)) (S.files shelf.old)
-        (I.left input.old) (I.left input.new) (O.written output.old) (O.written output.new)
-        (Rose (I.faults input.old) (I.faults input.new))
-        (Rose (S.faults shelf.old) (S.faults shelf.new))
-        (Rose (O.faults output.old) (O.faults output.new))
-        (Y.faults yard.old) (Y.faults yard.new) takers.old takers.new }
-    ensures source_later { I.faults input.old ≤ I.faults input.new }
-    ensures sink_later { O.faults output.old ≤ O.faults output.new }
+        (read_words (map string_bytes words.now))
+        (outside (streams I.left I.faults O.written O.faults input.old output.old)
+        (shelf_state S.files S.faults shelf.old) (Y.faults yard.old) takers.old)
+        (outside (streams I.left I.faults O.written O.faults input.new output.new)
+        (shelf_state S.files S.faults shelf.new) (Y.faults yard.new) takers.new) }
+    ensures later { AreLater (streams I.left I.faults O.written O.faults input.old output.old)
+        (streams I.left I.faults O.written O.faults input.new output.new) }
     ensures shelf_later { S.faults shelf.old ≤ S.faults shelf.new }
     ensures yard_later { Y.faults yard.old ≤ Y.faults yard.new }
 {

@@ -1,6 +1,7 @@
 -- What serving a script's lines over a cluster has come to.
-use Rattle.std.specs.Prelude.{◌≡◌, ℕ, List, [], ◌++◌, Option, IfSome}
+use Rattle.std.specs.Prelude.{◌≡◌, ℕ, List, [], ◌++◌, IfSome}
 use Rattle.std.specs.Io.KnownBytes.{IsAtEnd}
+use Rattle.qq_ports.specs.Streams.{Streams}
 use Rattle.qq_setup.specs.declared.setup.Setup.{Setup}
 use Rattle.qq_cluster.specs.Outcome.{Outcome, takers_after}
 use Rattle.qq_cluster_run.specs.declared.stop.AskStop.{AskStop}
@@ -25,9 +26,8 @@ HasAnswerCause met s run input (asks.Ended ending) = EndsRun met s run input end
 HasAnswerCause met s run input asks.NoMemory = Unit {0}
 
 -- all lines were served, and all that they print was written
-pub record IsServedToEnd (had : Histories) (s : Setup) (Stands : Run → Type 0) (left rest old new : Option (List ℕ))
-    : Type 0 where
+pub record IsServedToEnd (had : Histories) (s : Setup) (Stands : Run → Type 0) (before later : Streams) : Type 0 where
   pub run : Run
   pub stands : Stands run
-  pub ended : IsAtEnd rest
-  pub goes : IfSome left (λ bytes. Goes had s (inputs_of bytes) run [] old new)
+  pub ended : IsAtEnd later.source.left
+  pub goes : IfSome before.source.left (λ bytes. Goes had s (inputs_of bytes) run [] before.sink later.sink)

@@ -1,8 +1,8 @@
 -- What a script's setup is by its words, and by the export that they name.
 use Rattle.std.specs.Prelude.{◌≡◌, ◌⊎◌, ℕ, List, [], ◌++◌, Option, Some, None, is_some, true, Result, Ok, Err, codes}
 use Rattle.std.specs.Fmt.{decimal}
-use Rattle.qq_ports.specs.Faults.{AppendsPrefix}
 use Rattle.qq_ports.specs.Shelf.{Gives}
+use Rattle.qq_ports.specs.Streams.{ShelfFails, ShelfState, SinkFails, SinkState, WritesPart}
 use Rattle.qq_setup.specs.declared.setup.Made.{Made}
 use Rattle.qq_setup.specs.declared.setup.Setup.{Setup}
 use Rattle.qq_setup.specs.Setup.{SetupState, state_of, plain_setup}
@@ -58,10 +58,10 @@ made_text None = []
 made_text (Some made) = made_counts made ++ skipped_counts made
 
 -- why it wasn't written whole: the sink has failed in it, or there was no memory, and nothing was written
-abbrev pub HasMadeCause : PrintFault → Option Made → (old new : Option (List ℕ)) → (sink : Type 0) → Type 0
-HasMadeCause prints.Failed made old new sink =
-    (is_some made ≡ true) × sink × AppendsPrefix old new (made_text made)
-HasMadeCause prints.NoMemory made old new sink = new ≡ old
+abbrev pub HasMadeCause : PrintFault → Option Made → (before later : SinkState) → Type 0
+HasMadeCause prints.Failed made before later =
+    (is_some made ≡ true) × SinkFails before later × WritesPart before later (made_text made)
+HasMadeCause prints.NoMemory made before later = later.written ≡ before.written
 
 -- ---- why there is no setup
 
@@ -95,12 +95,12 @@ pub record IsRefusedExport (name : List ℕ) (files : Files) (options : Options)
   pub reads : read_export options bytes ≡ Err fault
   pub is : ending ≡ refused_export fault
 
-abbrev pub MayNotRead : Option (List ℕ) → Files → (shelf : Type 0) → Options → Ending → Type 0
-MayNotRead None files shelf options ending = ⊥
-MayNotRead (Some name) files shelf options ending =
-    (shelf × (ending ≡ read_fault)) ⊎ IsRefusedExport name files options ending
+abbrev pub MayNotRead : Option (List ℕ) → (before later : ShelfState) → Options → Ending → Type 0
+MayNotRead None before later options ending = ⊥
+MayNotRead (Some name) before later options ending =
+    (ShelfFails before later × (ending ≡ read_fault)) ⊎ IsRefusedExport name before.files options ending
 
 -- Why a script has no setup: there was no memory, the shelf has failed, or the export is refused.
-abbrev pub MayNotBegin : Files → (shelf : Type 0) → Options → Ending → Type 0
-MayNotBegin files shelf options ending =
-    (ending ≡ no_memory) ⊎ MayNotRead options.definitions files shelf options ending
+abbrev pub MayNotBegin : (before later : ShelfState) → Options → Ending → Type 0
+MayNotBegin before later options ending =
+    (ending ≡ no_memory) ⊎ MayNotRead options.definitions before later options ending

@@ -1,9 +1,8 @@
 -- How a drill ends, and what it has written by then.
-use Rattle.std.specs.Prelude.{◌≡◌, ◌⊎◌, ℕ, List, [], ◌∷◌, ◌++◌, Option}
-use Rattle.std.specs.Io.KnownBytes.{Appends, Keeps}
+use Rattle.std.specs.Prelude.{◌≡◌, ◌⊎◌, ℕ, List, [], ◌∷◌, ◌++◌}
 use Rattle.qq_setup.specs.declared.setup.Setup.{Setup}
 use Rattle.qq_setup.specs.Setup.{state_of}
-use Rattle.qq_ports.specs.Faults.{AppendsPrefix}
+use Rattle.qq_ports.specs.Streams.{IsUnread, SinkFails, SinkState, Streams, Writes, WritesPart}
 use Rattle.qq_script_lines.specs.declared.line.ScriptLine.{ScriptLine}
 use Rattle.qq_cluster.specs.Cluster.{Setup as ClusterSetup, Cluster, ClusterEvent, new_cluster}
 use Rattle.qq_cluster.specs.Lines.{IsScript}
@@ -67,49 +66,50 @@ pub record StopsWithin (met : Trouble → Type 0) (had : Histories) (setup : Clu
 
 -- ---- how it ends
 
--- all its parts were done, and its line was written, or a first part of it; or there was no memory for the line
-pub record IsDrilled (status : ℕ) (number : ℕ) (s : Setup) (left rest old new : Option (List ℕ)) (sink : Type 0)
-    (had : Histories) : Type 0 where
+-- its line was written, or a first part of it; or there was no memory for it
+abbrev pub HasSummary : (status : ℕ) → (text : List ℕ) → (before later : SinkState) → Type 0
+HasSummary status text before later =
+    ((status ≡ DONE) × Writes before later text)
+    ⊎ (((status ≡ WRITE_FAULT) × SinkFails before later × WritesPart before later text)
+    ⊎ Closes status no_memory before later (Writes before later))
+
+-- all its parts were done, and its line was written
+pub record IsDrilled (status : ℕ) (number : ℕ) (s : Setup) (before later : Streams) (had : Histories) : Type 0 where
   pub whole : Drilled had s number (parts s.nodes)
-  pub keeps : Keeps left rest
-  pub told :
-      ((status ≡ DONE)
-      × Appends old new (drill_text number (setup_drilled whole) (cluster_drilled whole) whole.known))
-      ⊎ (((status ≡ WRITE_FAULT) × sink
-      × AppendsPrefix old new (drill_text number (setup_drilled whole) (cluster_drilled whole) whole.known))
-      ⊎ Closes status no_memory sink (λ more. Appends old new more))
+  pub keeps : IsUnread before later
+  pub told : HasSummary status (drill_text number (setup_drilled whole) (cluster_drilled whole) whole.known)
+      before.sink later.sink
 
 -- some of its parts were done, and it stopped in the next one; a closing line alone was written
-pub record IsBroken (status : ℕ) (number : ℕ) (s : Setup) (left rest old new : Option (List ℕ)) (sink : Type 0)
-    (met : Trouble → Type 0) (had : Histories) : Type 0 where
+pub record IsBroken (status : ℕ) (number : ℕ) (s : Setup) (before later : Streams) (met : Trouble → Type 0)
+    (had : Histories) : Type 0 where
   pub done : List Part
   pub part : Part
-  pub later : List Part
-  pub are : parts s.nodes ≡ done ++ part ∷ later
+  pub remaining : List Part
+  pub are : parts s.nodes ≡ done ++ part ∷ remaining
   pub front : Drilled had s number done
   pub ending : Ending
   pub stops : StopsWithin met had (setup_drilled front) (events_drilled front)
       (part_lines part (is_led part (cluster_drilled front)) front.known.drill) ending
-  pub keeps : Keeps left rest
-  pub closes : Closes status ending sink (λ more. Appends old new more)
+  pub keeps : IsUnread before later
+  pub closes : Closes status ending before.sink later.sink (Writes before.sink later.sink)
 
 -- over a setup: its cluster wasn't opened, or the drill came to its end, or it stopped
-abbrev pub HasDrilled : (status number : ℕ) → Setup → (left rest old new : Option (List ℕ)) → (sink : Type 0)
-    → (met : Trouble → Type 0) → Histories → Type 0
-HasDrilled status number s left rest old new sink met had =
-    IsUnopened status left rest old new sink (MayNotOpen met s)
-    ⊎ (IsDrilled status number s left rest old new sink had
-    ⊎ IsBroken status number s left rest old new sink met had)
+abbrev pub HasDrilled : (status number : ℕ) → Setup → (before later : Streams) → (met : Trouble → Type 0) → Histories
+    → Type 0
+HasDrilled status number s before later met had =
+    IsUnopened status before later (MayNotOpen met s)
+    ⊎ (IsDrilled status number s before later had ⊎ IsBroken status number s before later met had)
 
-pub record IsDrillOver (status number nodes : ℕ) (left rest old new : Option (List ℕ)) (sink : Type 0)
-    (met : Trouble → Type 0) (had : Histories) : Type 0 where
+pub record IsDrillOver (status number nodes : ℕ) (before later : Streams) (met : Trouble → Type 0) (had : Histories)
+    : Type 0 where
   pub setup : Setup
   pub is_setup : state_of setup ≡ drill_setup nodes
-  pub ends : HasDrilled status number setup left rest old new sink met had
+  pub ends : HasDrilled status number setup before later met had
 
 -- What a drill has done that ends with this status. There may be no memory for its setup.
-abbrev pub DrillEnds : (status number nodes : ℕ) → (left rest old new : Option (List ℕ)) → (sink : Type 0)
-    → (met : Trouble → Type 0) → Histories → Type 0
-DrillEnds status number nodes left rest old new sink met had =
-    IsUnopened status left rest old new sink (λ ending. ending ≡ no_memory)
-    ⊎ IsDrillOver status number nodes left rest old new sink met had
+abbrev pub DrillEnds : (status number nodes : ℕ) → (before later : Streams) → (met : Trouble → Type 0) → Histories
+    → Type 0
+DrillEnds status number nodes before later met had =
+    IsUnopened status before later (λ ending. ending ≡ no_memory)
+    ⊎ IsDrillOver status number nodes before later met had

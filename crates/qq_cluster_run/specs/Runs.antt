@@ -1,18 +1,18 @@
 -- How a run ends, and what it has written by then.
 use Rattle.std.specs.Prelude.{◌≡◌, ◌⊎◌, ℕ, List, [], ◌++◌, Option, Some, None, true, IfSome, is_some, take}
 use Rattle.std.specs.List.{AllByRecursion}
-use Rattle.std.specs.Io.KnownBytes.{Appends, Keeps, IsAtEnd}
+use Rattle.std.specs.Io.KnownBytes.{Appends, IsAtEnd}
 use Rattle.qq_setup.specs.declared.setup.Setup.{Setup}
 use Rattle.qq_words.specs.declared.options.Options.{Options}
 use Rattle.qq_cluster.specs.Cluster.{Setup as ClusterSetup}
 use Rattle.qq_cluster.specs.Rules.{IsOpening}
 use Rattle.qq_ports.specs.Lines.{HasNoFeed}
+use Rattle.qq_ports.specs.Streams.{IsUnread, ShelfState, SinkFails, SinkState, SourceFails, Streams, Writes, WritesPart, with_written}
 use Rattle.qq_cluster_run.specs.declared.status.TheConstants.{DONE, LIMIT, REFUSED, WRITE_FAULT}
 use Rattle.qq_cluster_run.specs.declared.stop.AskStop.{AskStop}
 use Rattle.qq_cluster_run.specs.declared.stop.AskStop.TheVariants as asks
 use Rattle.qq_cluster_run.specs.declared.stop.Stop.{Stop}
 use Rattle.qq_cluster_run.specs.declared.stop.Stop.TheVariants as stops
-use Rattle.qq_ports.specs.Faults.{AppendsPrefix}
 use Rattle.qq_cluster_run.specs.Definitions.{Files, IsSetupOver, MayNotBegin, made_text}
 use Rattle.qq_cluster_run.specs.Endings.{Ending, usage, read_fault, write_fault, yard_fault, no_memory}
 use Rattle.qq_cluster_run.specs.Inputs.{Input}
@@ -28,35 +28,34 @@ IsRefusal ending = (ending.status ≡ REFUSED) ⊎ (ending.status ≡ LIMIT)
 
 -- Some lines were served, and the next one ends the run so.
 pub record EndsBy (met : Trouble → Type 0) (claims : Claims) (ending : Ending) (s : Setup) (bytes : List ℕ)
-    (rest old new : Option (List ℕ)) (more : List ℕ) : Type 0 where
-  pub served : Served claims.during s bytes rest
+    (before later : Streams) (more : List ℕ) : Type 0 where
+  pub served : Served claims.during s bytes later.source.left
   pub next : NextEnds met s (run_behind served.behind) served.left ending
   pub finally : IsRefusal ending → claims.finally (setup_behind served.behind) served.behind.events
-  pub written : Appends old new (text_behind served.behind ++ more)
+  pub written : Writes before.sink later.sink (text_behind served.behind ++ more)
 
 -- Each line that was read whole was served; what was read behind these lines is a piece of one.
-pub record HasAnswers (claims : Claims) (s : Setup) (bytes : List ℕ) (rest old new : Option (List ℕ))
-    (more : List ℕ) : Type 0 where
-  pub served : Served claims.during s bytes rest
-  pub is_piece : HasNoFeed served.piece
-  pub finally : claims.finally (setup_behind served.behind) served.behind.events
-  pub written : Appends old new (text_behind served.behind ++ more)
+pub record HasAnswers (claims : Claims) (s : Setup) (bytes : List ℕ) (before later : Streams) (more : List ℕ) : Type 0
+  where
+    pub served : Served claims.during s bytes later.source.left
+    pub is_piece : HasNoFeed served.piece
+    pub finally : claims.finally (setup_behind served.behind) served.behind.events
+    pub written : Writes before.sink later.sink (text_behind served.behind ++ more)
 
 -- Some lines were served, and a first part of what is printed was written.
-pub record BreaksOff (had : Histories) (s : Setup) (bytes : List ℕ) (rest old new : Option (List ℕ)) (more : List ℕ)
-    : Type 0 where
-  pub served : Served had s bytes rest
-  pub text : List ℕ
-  pub is : IsText served text
-  pub said : List ℕ
-  pub unsaid : List ℕ
-  pub parts : text ≡ said ++ unsaid
-  pub written : Appends old new (said ++ more)
+pub record BreaksOff (had : Histories) (s : Setup) (bytes : List ℕ) (before later : Streams) (more : List ℕ) : Type 0
+  where
+    pub served : Served had s bytes later.source.left
+    pub text : List ℕ
+    pub is : IsText served text
+    pub said : List ℕ
+    pub unsaid : List ℕ
+    pub parts : text ≡ said ++ unsaid
+    pub written : Writes before.sink later.sink (said ++ more)
 
 -- and of no line more has anything happened
-pub record IsCut (claims : Claims) (s : Setup) (bytes : List ℕ) (rest old new : Option (List ℕ)) (more : List ℕ)
-    : Type 0 where
-  pub breaks : BreaksOff claims.during s bytes rest old new more
+pub record IsCut (claims : Claims) (s : Setup) (bytes : List ℕ) (before later : Streams) (more : List ℕ) : Type 0 where
+  pub breaks : BreaksOff claims.during s bytes before later more
   pub finally : claims.finally (setup_behind breaks.served.behind) breaks.served.behind.events
 
 -- some lines were served, whatever the source shows, and one more ends the run so
@@ -67,19 +66,20 @@ pub record MayEnd (met : Trouble → Type 0) (claims : Claims) (s : Setup) (endi
   pub ends : EndsRun met s (run_behind behind) input ending
   pub finally : IsRefusal ending → claims.finally (setup_behind behind) behind.events
 
--- `left` is what the source had, and `rest` what it has in the end, where it tells; `old` and `new` are what the
--- sink had and has; `source` and `sink` say that their counts of faults rose, `met` what went wrong below, and `claims`
--- what is so of the run's events.
-abbrev pub HasStopped : Stop → Setup → (left rest old new : Option (List ℕ)) → (source sink : Type 0)
-    → (met : Trouble → Type 0) → (claims : Claims) → (more : List ℕ) → Type 0
-HasStopped (stops.Ended ending) s left rest old new source sink met claims more =
-    MayEnd met claims s ending × IfSome left (λ bytes. EndsBy met claims ending s bytes rest old new more)
-HasStopped stops.ReadFault s left rest old new source sink met claims more =
-    source × IfSome left (λ bytes. HasAnswers claims s bytes rest old new more)
-HasStopped stops.WriteFault s left rest old new source sink met claims more =
-    sink × IfSome left (λ bytes. IsCut claims s bytes rest old new more)
-HasStopped stops.NoMemory s left rest old new source sink met claims more =
-    IfSome left (λ bytes. BreaksOff claims.during s bytes rest old new more)
+-- `before` and `later` are its streams at first and in the end, `met` says what went wrong below, and `claims` what is
+-- so of the run's events.
+abbrev pub HasStopped : Stop → Setup → (before later : Streams) → (met : Trouble → Type 0) → (claims : Claims)
+    → (more : List ℕ) → Type 0
+HasStopped (stops.Ended ending) s before later met claims more =
+    MayEnd met claims s ending
+    × IfSome before.source.left (λ bytes. EndsBy met claims ending s bytes before later more)
+HasStopped stops.ReadFault s before later met claims more =
+    SourceFails before.source later.source
+    × IfSome before.source.left (λ bytes. HasAnswers claims s bytes before later more)
+HasStopped stops.WriteFault s before later met claims more =
+    SinkFails before.sink later.sink × IfSome before.source.left (λ bytes. IsCut claims s bytes before later more)
+HasStopped stops.NoMemory s before later met claims more =
+    IfSome before.source.left (λ bytes. BreaksOff claims.during s bytes before later more)
 
 -- why the run stops where a line asks for nothing
 abbrev pub stop_of : AskStop → Stop
@@ -95,24 +95,24 @@ ending_of stops.NoMemory = no_memory
 
 -- A closing line was written, and the status is its ending's. Or the sink failed in it, and a first part of it
 -- was written.
-abbrev pub Closes : ℕ → Ending → Type 0 → (List ℕ → Type 0) → Type 0
-Closes status ending sink Stands =
+abbrev pub Closes : (status : ℕ) → Ending → (before later : SinkState) → (Stands : List ℕ → Type 0) → Type 0
+Closes status ending before later Stands =
     ((status ≡ ending.status) × Stands ending.text)
-    ⊎ ((status ≡ WRITE_FAULT) × sink × ((count : ℕ) × Stands (take count ending.text)))
+    ⊎ ((status ≡ WRITE_FAULT) × SinkFails before later × ((count : ℕ) × Stands (take count ending.text)))
 
 -- ---- how a run ends
 
 -- all lines were served, and all that is printed was written
-pub record IsDoneOver (claims : Claims) (s : Setup) (bytes : List ℕ) (rest old new : Option (List ℕ)) : Type 0 where
-  pub served : Served claims.during s bytes rest
+pub record IsDoneOver (claims : Claims) (s : Setup) (bytes : List ℕ) (before later : Streams) : Type 0 where
+  pub served : Served claims.during s bytes later.source.left
   pub all : served.left ≡ []
   pub finally : claims.finally (setup_behind served.behind) served.behind.events
-  pub written : Appends old new (text_behind served.behind ++ audits_behind served.behind)
+  pub written : Writes before.sink later.sink (text_behind served.behind ++ audits_behind served.behind)
 
-pub record IsDone (status : ℕ) (claims : Claims) (s : Setup) (left rest old new : Option (List ℕ)) : Type 0 where
+pub record IsDone (status : ℕ) (claims : Claims) (s : Setup) (before later : Streams) : Type 0 where
   pub status_is : status ≡ DONE
-  pub ended : IsAtEnd rest
-  pub over : IfSome left (λ bytes. IsDoneOver claims s bytes rest old new)
+  pub ended : IsAtEnd later.source.left
+  pub over : IfSome before.source.left (λ bytes. IsDoneOver claims s bytes before later)
 
 -- the setup of a run with these options, whatever file an export is
 abbrev pub IsSetup : Options → Setup → Type 0
@@ -135,73 +135,81 @@ MayNotOpen met s ending =
     EndsUnsupported met s ending ⊎ ((logs : Logs) × MayNotOpenOver met (cluster_over s logs) ending)
 
 -- nothing was read, and a closing line alone was written, of an ending that may come
-pub record IsUnopened (status : ℕ) (left rest old new : Option (List ℕ)) (sink : Type 0) (May : Ending → Type 0)
-    : Type 0 where
+pub record IsUnopened (status : ℕ) (before later : Streams) (May : Ending → Type 0) : Type 0 where
   pub ending : Ending
   pub may : May ending
-  pub keeps : Keeps left rest
-  pub closes : Closes status ending sink (λ more. Appends old new more)
+  pub keeps : IsUnread before later
+  pub closes : Closes status ending before.sink later.sink (Writes before.sink later.sink)
 
 -- the run stopped, and then wrote the closing line of its stop
-pub record IsStopped (status : ℕ) (s : Setup) (left rest old new : Option (List ℕ)) (source sink : Type 0)
-    (met : Trouble → Type 0) (claims : Claims) : Type 0 where
-  pub stop : Stop
-  pub closes : Closes status (ending_of stop) sink
-      (λ more. HasStopped stop s left rest old new source sink met claims more)
+pub record IsStopped (status : ℕ) (s : Setup) (before later : Streams) (met : Trouble → Type 0) (claims : Claims) : Type 0
+  where
+    pub stop : Stop
+    pub closes : Closes status (ending_of stop) before.sink later.sink
+        (λ more. HasStopped stop s before later met claims more)
 
 -- what a run over a setup has done: the cluster wasn't opened, or the script was served to its end, or the run stopped
-abbrev pub HasRun : (status : ℕ) → Setup → (left rest old new : Option (List ℕ)) → (source sink : Type 0)
-    → (met : Trouble → Type 0) → (claims : Claims) → Type 0
-HasRun status s left rest old new source sink met claims =
-    IsUnopened status left rest old new sink (MayNotOpen met s)
-    ⊎ (IsDone status claims s left rest old new ⊎ IsStopped status s left rest old new source sink met claims)
+abbrev pub HasRun : (status : ℕ) → Setup → (before later : Streams) → (met : Trouble → Type 0) → (claims : Claims)
+    → Type 0
+HasRun status s before later met claims =
+    IsUnopened status before later (MayNotOpen met s)
+    ⊎ (IsDone status claims s before later ⊎ IsStopped status s before later met claims)
 
 -- a run over a cluster of a setup with these options
-pub record IsRunOver (status : ℕ) (options : Options) (left rest old new : Option (List ℕ))
-    (source sink : Type 0) (met : Trouble → Type 0) (claims : Claims) : Type 0 where
+pub record IsRunOver (status : ℕ) (options : Options) (before later : Streams) (met : Trouble → Type 0) (claims : Claims)
+    : Type 0 where
   pub setup : Setup
   pub is_setup : IsSetup options setup
-  pub ends : HasRun status setup left rest old new source sink met claims
+  pub ends : HasRun status setup before later met claims
 
 -- and what it has done behind the line of what was made of an export, where there is one
-abbrev pub ScriptEnds : (status : ℕ) → Options → (left rest old new : Option (List ℕ)) → (source sink : Type 0)
-    → (met : Trouble → Type 0) → (claims : Claims) → Type 0
-ScriptEnds status options left rest old new source sink met claims =
-    IsUnopened status left rest old new sink (λ ending. ending ≡ no_memory)
-    ⊎ IsRunOver status options left rest old new source sink met claims
+abbrev pub ScriptEnds : (status : ℕ) → Options → (before later : Streams) → (met : Trouble → Type 0) → (claims : Claims)
+    → Type 0
+ScriptEnds status options before later met claims =
+    IsUnopened status before later (λ ending. ending ≡ no_memory) ⊎ IsRunOver status options before later met claims
 
 -- ---- from the first line on
 
 -- that line was written, and the run over the setup did this
-pub record IsBehindMade (status : ℕ) (setup : Setup) (left rest old new : Option (List ℕ)) (source sink : Type 0)
-    (met : Trouble → Type 0) (claims : Claims) : Type 0 where
+pub record IsBehindMade (status : ℕ) (setup : Setup) (before later : Streams) (met : Trouble → Type 0) (claims : Claims)
+    : Type 0 where
   pub mid : Option (List ℕ)
-  pub made : Appends old mid (made_text setup.made)
-  pub ends : HasRun status setup left rest mid new source sink met claims
+  pub made : Appends before.sink.written mid (made_text setup.made)
+  pub ends : HasRun status setup (with_written mid before) later met claims
 
 -- or, where there is one, the sink has failed in it
-pub record IsCutInMade (status : ℕ) (setup : Setup) (left rest old new : Option (List ℕ)) (sink : Type 0) : Type 0
-  where
-    pub some : is_some setup.made ≡ true
-    pub status_is : status ≡ WRITE_FAULT
-    pub rose : sink
-    pub keeps : Keeps left rest
-    pub written : AppendsPrefix old new (made_text setup.made)
+pub record IsCutInMade (status : ℕ) (setup : Setup) (before later : Streams) : Type 0 where
+  pub some : is_some setup.made ≡ true
+  pub status_is : status ≡ WRITE_FAULT
+  pub rose : SinkFails before.sink later.sink
+  pub keeps : IsUnread before later
+  pub written : WritesPart before.sink later.sink (made_text setup.made)
+
+-- either of these
+abbrev pub HasMade : (status : ℕ) → Setup → (before later : Streams) → (met : Trouble → Type 0) → (claims : Claims)
+    → Type 0
+HasMade status setup before later met claims =
+    IsCutInMade status setup before later ⊎ IsBehindMade status setup before later met claims
+
+-- or there was no memory for the line
+abbrev pub HasBegun : (status : ℕ) → Setup → (before later : Streams) → (met : Trouble → Type 0) → (claims : Claims)
+    → Type 0
+HasBegun status setup before later met claims =
+    IsUnopened status before later (λ ending. ending ≡ no_memory) ⊎ HasMade status setup before later met claims
 
 -- a script over what its words and the shelf's file say of its setup
-pub record IsScript (status : ℕ) (options : Options) (files : Files) (left rest old new : Option (List ℕ))
-    (source sink : Type 0) (met : Trouble → Type 0) (claims : Claims) : Type 0 where
+pub record IsScript (status : ℕ) (options : Options) (files : Files) (before later : Streams) (met : Trouble → Type 0)
+    (claims : Claims) : Type 0 where
   pub setup : Setup
   pub is_setup : IsSetupOver files options setup
-  pub ends : IsCutInMade status setup left rest old new sink
-      ⊎ IsBehindMade status setup left rest old new source sink met claims
+  pub ends : HasMade status setup before later met claims
 
--- What a run has done that ends with this status, where the words are a script with these options, and where they are no
--- command. There may be no memory to read them.
-abbrev pub RunEnds : (status : ℕ) → Option Options → Files → (left rest old new : Option (List ℕ))
-    → (source shelf sink : Type 0) → (met : Trouble → Type 0) → (claims : Claims) → Type 0
-RunEnds status (Some options) files left rest old new source shelf sink met claims =
-    IsUnopened status left rest old new sink (MayNotBegin files shelf options)
-    ⊎ IsScript status options files left rest old new source sink met claims
-RunEnds status None files left rest old new source shelf sink met claims =
-    IsUnopened status left rest old new sink (λ ending. (ending ≡ usage) ⊎ (ending ≡ no_memory))
+-- What a run has done that ends with this status, where the words are a script with these options, and where they are
+-- no command; `first` and `last` are its shelf. There may be no memory to read the words.
+abbrev pub RunEnds : (status : ℕ) → Option Options → (first last : ShelfState) → (before later : Streams)
+    → (met : Trouble → Type 0) → (claims : Claims) → Type 0
+RunEnds status (Some options) first last before later met claims =
+    IsUnopened status before later (MayNotBegin first last options)
+    ⊎ IsScript status options first.files before later met claims
+RunEnds status None first last before later met claims =
+    IsUnopened status before later (λ ending. (ending ≡ usage) ⊎ (ending ≡ no_memory))

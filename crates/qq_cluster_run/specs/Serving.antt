@@ -1,10 +1,10 @@
 -- What a run has done so far.
 use Rattle.std.specs.Prelude.{◌≡◌, ◌⊎◌, ◌≤◌, ℕ, ◌+◌, true, false, List, [], ◌∷◌, ◌++◌, length, take, Option, Some, None, IfSome, Contains}
 use Rattle.qq_base.specs.declared.ids.NodeId.{NodeId}
-use Rattle.std.specs.Io.KnownBytes.{Appends}
 use Rattle.std.specs.List.{list_all}
 use Rattle.qq_base.specs.declared.memory.TheConstants.{NUMBER_END}
 use Rattle.qq_log.specs.Stable.{Stable, new_state, stable}
+use Rattle.qq_ports.specs.Streams.{SinkState, Writes}
 use Rattle.qq_raft_msg.specs.declared.bag.TheConstants.{BAG_LIMIT}
 use Rattle.qq_raft_model.specs.Group.{may_restart}
 use Rattle.qq_setup.specs.declared.setup.Setup.{Setup}
@@ -250,10 +250,10 @@ audits_behind b = audits_text (setup_behind b) (cluster_behind b)
 
 -- the text so far was written, and the run goes on
 pub record Goes (had : Histories) (s : Setup) (all : List Input) (run : Run)
-    (left : List Input) (old new : Option (List ℕ)) : Type 0 where
+    (left : List Input) (before later : SinkState) : Type 0 where
   pub behind : Behind had s all left
   pub run_is : run ≡ run_behind behind
-  pub written : Appends old new (text_behind behind)
+  pub written : Writes before later (text_behind behind)
 
 -- The first lines of bytes were served, of what stands behind them a piece was read, and the rest is unread: it is what
 -- the bytes end with.

@@ -1,7 +1,8 @@
 //! What a drill has shown so far, and the line that is written of it in the end.
-ghost use Rattle.std.specs.Prelude.{◌≡◌, ◌<◌, ◌++◌, string_bytes, IfOk, IsOkUnless, OnOk};
+ghost use Rattle.std.specs.Prelude.{◌≡◌, ◌<◌, ◌≤◌, ◌++◌, ◌∷◌, [], length, string_bytes, IfOk, IsOkUnless, OnOk};
 ghost use Rattle.qq_setup.specs.Setup.{state_of};
 ghost use Rattle.qq_defs.specs.Runnable.{IsRunnable};
+ghost use Rattle.qq_cluster.specs.Outcome.{deliveries_among};
 ghost use Rattle.qq_drill.specs.Drill.{new_drill};
 ghost use Rattle.qq_cluster_run.specs.Drilling.{Known, after_part, begin_part, drill_setup, first_digits, first_known, hear_each, part_lines, summary, tell};
 ghost use Rattle.qq_cluster_run.specs.Playing.{Knows};
@@ -14,7 +15,7 @@ use qq_drill::Drill;
 use qq_script::push_text;
 use qq_script_lines::ScriptLine;
 use qq_setup::Setup;
-use qq_taker::Handed;
+use qq_taker::{Heard, What};
 use qq_words::{LOG_BYTES, NodeCount};
 use sha2::{Digest, Sha256};
 use std::alloc::Global;
@@ -39,15 +40,35 @@ pub fn drill_setup(alloc: Global, nodes: NodeCount) -> Result<Setup, Memory>
     Setup::plain(alloc, nodes.number(), 3, 4, LOG_BYTES)
 }
 
-// Deliveries were printed, in order.
-fn hear_each(drill: &mut Drill, list: &[Handed]) -> Result<(), Memory>
-    ensures ok { OnOk result (drill.new ≡ hear_each list.now drill.old) }
+// What was told is heard, if it is a delivery; how many deliveries that is.
+fn hear(drill: &mut Drill, heard: &Heard) -> Result<u64, Memory>
+    ensures ok { OnOk result
+        (drill.new ≡ hear_each (deliveries_among (heard.now ∷ [])) drill.old) }
+    ensures count { IfOk result (λ count. count ≡ length (deliveries_among (heard.now ∷ []))) }
+    ensures few { IfOk result (λ count. count ≤ 1) }
     ensures want { IsOkUnless result Memory.Want }
 {
-    for handed in list {
-        drill.hear(handed.consumer, handed.delivery.id)?;
+    match &heard.what {
+        What::Delivery(handed) => {
+            drill.hear(handed.consumer, handed.delivery.id)?;
+            Ok(1)
+        }
+        What::Answer(_) => Ok(0),
+        What::Refused { .. } => Ok(0),
     }
-    Ok(())
+}
+
+// The deliveries among what was told are heard, in order; how many they are.
+fn hear_each(drill: &mut Drill, list: &[Heard]) -> Result<u64, Memory>
+    ensures ok { OnOk result (drill.new ≡ hear_each (deliveries_among list.now) drill.old) }
+    ensures count { IfOk result (λ count. count ≡ length (deliveries_among list.now)) }
+    ensures want { IsOkUnless result Memory.Want }
+{
+    let mut count: u64 = 0;
+    for heard in list {
+        count += hear(drill, heard)?;
+    }
+    Ok(count)
 }
 
 impl Play {
@@ -82,16 +103,16 @@ impl Play {
         part_lines(alloc, &mut self.drill, part, led)
     }
 
-    /// A text was printed, with these deliveries.
-    pub fn tell(&mut self, list: &[Handed], text: &[u8]) -> Result<(), Memory>
+    /// A text was printed, and this was told with it.
+    pub fn tell(&mut self, list: &[Heard], text: &[u8]) -> Result<(), Memory>
         ensures ok { (k : Known) → Knows self.old k →
-            OnOk result (Knows self.new (tell list.now text.now k)) }
+            OnOk result (Knows self.new (tell (deliveries_among list.now) text.now k)) }
         ensures want { IsOkUnless result Memory.Want }
     {
-        let Some(delivered) = self.delivered.checked_add(list.len() as u64) else {
+        let count = hear_each(&mut self.drill, list)?;
+        let Some(delivered) = self.delivered.checked_add(count) else {
             return Err(Memory::Want);
         };
-        hear_each(&mut self.drill, list)?;
         self.digest.update(text);
         self.delivered = delivered;
         Ok(())

@@ -4,4 +4,5 @@ pub mod Lines
 pub mod MemYard
 pub mod Memory
 pub mod Shelf
+pub mod Streams
 pub mod Yard

@@ -1,4 +1,4 @@
-use Rattle.qq_broker.proofs.DrillAudits.{Digests, Marks}
+use Rattle.qq_broker.proofs.DrillAudits.{Digests, Tallies}
 use Rattle.qq_broker.proofs.drills.add_audits.Given as goal
 
 -- those of the first rows did
@@ -7,7 +7,7 @@ invariant-loop-row g l = record {
   digests :
       Digests g.D.NodeDisk.tells g.D.NodeDisk.past g.D.NodeDisk.faults l.setup l.nodes l.fn.digest l.digest l.rows
       l.row-index;
-  marks :
-      Marks g.D.NodeDisk.tells g.D.NodeDisk.past g.D.NodeDisk.faults l.setup l.nodes l.fn.marks.items l.marks.items l.rows
+  tallies :
+      Tallies g.D.NodeDisk.tells g.D.NodeDisk.past g.D.NodeDisk.faults l.setup l.nodes l.fn.tally l.tally l.rows
       l.row-index;
 }

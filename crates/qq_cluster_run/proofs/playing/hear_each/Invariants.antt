@@ -1,7 +1,15 @@
-use Rattle.std.proofs.Common.{◌≡◌, drop}
+use Rattle.std.proofs.Common.{◌≡◌, ◌+◌, ◌≤◌, drop, length}
+use Rattle.qq_cluster.specs.Outcome.{deliveries_among}
 use Rattle.qq_cluster_run.specs.Drilling.{hear_each}
 use Rattle.qq_cluster_run.proofs.playing.hear_each.Given as goal
 
 -- the rest makes of it what all made of it at first
-abbrev pub invariant-loop-handed : goal.invariant-loop-handed
-invariant-loop-handed l = hear_each (drop l.handed-index l.list) l.drill ≡ hear_each l.list l.initial.drill
+abbrev pub invariant-loop-heard : goal.invariant-loop-heard
+invariant-loop-heard l = record {
+  heard :
+      hear_each (deliveries_among (drop l.heard-index l.list)) l.drill
+      ≡ hear_each (deliveries_among l.list) l.initial.drill;
+  count :
+      l.count + length (deliveries_among (drop l.heard-index l.list)) ≡ length (deliveries_among l.list);
+  few : l.count ≤ l.heard-index;
+}
