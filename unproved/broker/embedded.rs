@@ -1,15 +1,15 @@
 //! A check of brokers over disks that a program hands in.
 
+use crate::runs::four_takers;
 use anyhow::{Result, bail, ensure};
 use cases::{Trials, run_each};
 use qq_base::QueueId;
-use crate::runs::four_takers;
 use qq_broker::{Broker, Pumped, StepFault, open_disks, reopen_disks, step};
 use qq_mem_disk::MemDisk;
 use qq_ports::MemYard;
 use qq_script_lines::{Place, parse_line};
 use qq_setup::Setup;
-use qq_taker::{Desk, FixedTaker};
+use qq_taker::{Desk, Taker};
 
 /// A line stands in no client's section.
 const PLACE: Place = Place {
@@ -19,10 +19,10 @@ const PLACE: Place = Place {
 };
 
 /// What a broker answers to lines.
-fn serve(
+pub fn serve<T: Taker>(
     rt: HostRuntime,
     broker: &mut Broker<MemDisk>,
-    takers: &mut Desk<FixedTaker>,
+    takers: &mut Desk<T>,
     lines: &[&str],
 ) -> Result<String> {
     let alloc = rt.alloc();
@@ -47,10 +47,35 @@ fn setup(rt: HostRuntime) -> Result<Setup> {
     }
 }
 
+/// A broker of three new nodes with this many queues, each replicated over all of them.
+pub fn opened<T: Taker>(
+    rt: HostRuntime,
+    queues: u32,
+    takers: &mut Desk<T>,
+) -> Result<Broker<MemDisk>> {
+    let alloc = rt.alloc();
+    let disks = vec![in alloc;
+        MemDisk::new(alloc),
+        MemDisk::new(alloc),
+        MemDisk::new(alloc),
+    ]?;
+    let Ok(setup) = Setup::plain(alloc, 3, 3, queues, 4_194_304) else {
+        bail!("no memory");
+    };
+    match open_disks(alloc, disks, setup, takers) {
+        Ok(broker) => Ok(broker),
+        Err(_) => bail!("not opened"),
+    }
+}
+
 /// Its nodes stop, and it is opened again with what it knew, and then by the disks alone.
 fn a_stopped_broker_goes_on_over_its_disks(rt: HostRuntime) -> Result<()> {
     let alloc = rt.alloc();
-    let disks = vec![in alloc; MemDisk::new(alloc), MemDisk::new(alloc), MemDisk::new(alloc)]?;
+    let disks = vec![in alloc;
+        MemDisk::new(alloc),
+        MemDisk::new(alloc),
+        MemDisk::new(alloc),
+    ]?;
     let mut takers = four_takers(alloc)?;
     let Ok(mut broker) = open_disks(alloc, disks, setup(rt)?, &mut takers) else {
         bail!("not opened");
@@ -88,12 +113,21 @@ fn a_stopped_broker_goes_on_over_its_disks(rt: HostRuntime) -> Result<()> {
 fn a_taker_is_given_once(rt: HostRuntime) -> Result<()> {
     let alloc = rt.alloc();
     let mut takers = four_takers(alloc)?;
-    let disks = vec![in alloc; MemDisk::new(alloc), MemDisk::new(alloc), MemDisk::new(alloc)]?;
+    let disks = vec![in alloc;
+        MemDisk::new(alloc),
+        MemDisk::new(alloc),
+        MemDisk::new(alloc),
+    ]?;
     let Ok(mut broker) = open_disks(alloc, disks, setup(rt)?, &mut takers) else {
         bail!("not opened");
     };
     ensure!(takers.is_free(1));
-    let lines = ["subscribe 1 q1 1 2", "attach 1 q1 1 1", "publish a", "attach 1 q1 1 2"];
+    let lines = [
+        "subscribe 1 q1 1 2",
+        "attach 1 q1 1 1",
+        "publish a",
+        "attach 1 q1 1 2",
+    ];
     let said = serve(rt, &mut broker, &mut takers, &lines)?;
     let wanted = "subscribed 1\nconfirmed 2\ntaken 1 1 1 settle\ndone\nbusy 1\n";
     ensure!(said.as_str() == wanted, "{said}");

@@ -27,6 +27,7 @@ impl Yard for UsedYard {
     type Disk = MemDisk;
 
     ghost faults = { ? };
+
     ghost is_given = { ? };
 
     fn disk(&mut self, alloc: Global, _: Option<&str>, _: NodeId) -> Result<MemDisk, YardFault> {
