@@ -11,7 +11,7 @@ use Rattle.qq_taker.specs.declared.desk.Place.{Place}
 use Rattle.qq_taker.specs.declared.heard.Heard.{Heard}
 use Rattle.qq_taker.specs.declared.taker.Seen.{Seen}
 use Rattle.qq_taker.specs.declared.taker.Verdict.{Verdict}
-use Rattle.qq_taker.specs.Takers.{Held, Free, Given, Gone, IsOffered, LooksAt, Takers, change_at, change_held, hand, held_by, held_of, is_free, is_free_by, is_given_by, look, taker_at}
+use Rattle.qq_taker.specs.Takers.{Held, Free, Given, Gone, IsOffered, LooksAt, Takers, change_at, change_held, hand, held_by, held_of, is_free, is_free_by, is_given_by, look, seen_at, seen_there, taker_at}
 
 -- ---- the places of a desk
 
@@ -66,6 +66,11 @@ module _ {T : Type 0} (seen : T → Option (List Seen)) (heard : Option (List He
       → slice_get rows (number - 1) ≡ Some old → is_free number (desk_of rows) ≡ is_free_by (held_by seen old)
   is-free-at number rows old some found =
       ap (λ (o : Option Held). option_map_or is_free_by o false) (found-at number rows old some found)
+
+  pub seen-at-place : (number : ℕ) (rows : List (Place T)) (old : Place T) → (number ≡ 0 → ⊥)
+      → slice_get rows (number - 1) ≡ Some old → seen_at number (desk_of rows) ≡ seen_there (held_by seen old)
+  seen-at-place number rows old some found =
+      ap (λ (o : Option Held). option_map_or seen_there o None) (found-at number rows old some found)
 
   -- it was offered a delivery
   pub offered : (number : ℕ) (rows : List (Place T)) (delivery : Delivery) (answer : Option Verdict)

@@ -1,5 +1,5 @@
 ghost use Rattle.std.specs.Prelude.{◌≡◌, ◌++◌, ◌∷◌, [], IfOk, IsOkUnless, OnErr, OnOk, option_copied, option_map};
-ghost use Rattle.qq_taker.specs.declared.heard.What.TheVariants.{Answer, Delivery, Refused};
+ghost use Rattle.qq_taker.specs.declared.heard.What.TheVariants as whats;
 ghost use Rattle.qq_taker.specs.Takers.{Free, Gone, IsOffered, LooksAt, drop_at, give, hand, hear, hear_on, heard_of, held_by, is_free, is_free_by, listen, no_takers, seen_at, seen_there, take_heard};
 
 use crate::handed::Handed;
@@ -99,7 +99,7 @@ fn keep_answer(
     row: &AuditRow,
 ) -> Result<(), Memory>
     ensures ok { OnOk result (kept.new.items
-        ≡ kept.old.items ++ record { queue = queue; what = Answer row.now } ∷ []) }
+        ≡ kept.old.items ++ record { queue = queue; what = whats.Answer row.now } ∷ []) }
     ensures err { OnErr result (kept.new.items ≡ kept.old.items) }
     ensures want { IsOkUnless result Memory.Want }
 {
@@ -115,7 +115,7 @@ fn keep_delivery(
     handed: &Handed,
 ) -> Result<(), Memory>
     ensures ok { OnOk result (kept.new.items
-        ≡ kept.old.items ++ record { queue = queue; what = Delivery handed.now } ∷ []) }
+        ≡ kept.old.items ++ record { queue = queue; what = whats.Delivery handed.now } ∷ []) }
     ensures err { OnErr result (kept.new.items ≡ kept.old.items) }
     ensures want { IsOkUnless result Memory.Want }
 {
@@ -254,7 +254,7 @@ impl<T: Taker> Desk<T> {
         row: &AuditRow,
     ) -> Result<(), Memory>
         ensures ok { OnOk result (self.new
-            ≡ hear (record { queue = queue; what = Answer row.now }) self.old) }
+            ≡ hear (record { queue = queue; what = whats.Answer row.now }) self.old) }
         ensures err { OnErr result (self.new ≡ self.old) }
         ensures want { IsOkUnless result Memory.Want }
     {
@@ -273,7 +273,7 @@ impl<T: Taker> Desk<T> {
         handed: &Handed,
     ) -> Result<(), Memory>
         ensures ok { OnOk result (self.new
-            ≡ hear (record { queue = queue; what = Delivery handed.now }) self.old) }
+            ≡ hear (record { queue = queue; what = whats.Delivery handed.now }) self.old) }
         ensures err { OnErr result (self.new ≡ self.old) }
         ensures want { IsOkUnless result Memory.Want }
     {
@@ -284,14 +284,9 @@ impl<T: Taker> Desk<T> {
     }
 
     /// A session's command wasn't given to a queue's leader, and that is told. Out of memory, all is as before.
-    pub fn hear_refusal(
-        &mut self,
-        queue: QueueId,
-        session: u64,
-        why: Refusal,
-    ) -> Result<(), Memory>
+    pub fn hear_refusal(&mut self, queue: QueueId, session: u64, why: Refusal) -> Result<(), Memory>
         ensures ok { OnOk result (self.new
-            ≡ hear (record { queue = queue; what = Refused session why }) self.old) }
+            ≡ hear (record { queue = queue; what = whats.Refused session why }) self.old) }
         ensures err { OnErr result (self.new ≡ self.old) }
         ensures want { IsOkUnless result Memory.Want }
     {
