@@ -19,7 +19,6 @@ impl Yard for CountingYard {
     type Disk = MemDisk;
 
     ghost faults = { ? };
-
     ghost is_given = { ? };
 
     fn disk(&mut self, alloc: Global, _: Option<&str>, _: NodeId) -> Result<MemDisk, YardFault> {

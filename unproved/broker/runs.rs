@@ -26,12 +26,7 @@ impl Ran {
 /// The takers of the program: 1 settles, 2 returns, 3 discards, 4 keeps.
 pub fn four_takers(alloc: Global) -> Result<Desk<FixedTaker>> {
     let mut takers = Desk::new(alloc);
-    for verdict in [
-        Verdict::Settle,
-        Verdict::Return,
-        Verdict::Discard,
-        Verdict::Keep,
-    ] {
+    for verdict in [Verdict::Settle, Verdict::Return, Verdict::Discard, Verdict::Keep] {
         ensure!(takers.add(FixedTaker::new(verdict)) == Ok(()));
     }
     Ok(takers)
@@ -57,15 +52,7 @@ pub fn serve<Y: Yard>(
     let mut sink = MemSink::new(alloc, ROOM, vec![in alloc; write]?)?;
     let mut shelf = MemShelf::new(Vec::new(alloc), Vec::new(alloc));
     let mut takers = four_takers(alloc)?;
-    let status = run(
-        &rt,
-        &words,
-        &mut source,
-        &mut sink,
-        &mut shelf,
-        yard,
-        &mut takers,
-    );
+    let status = run(&rt, &words, &mut source, &mut sink, &mut shelf, yard, &mut takers);
     Ok(Ran { status, sink })
 }
 

@@ -15,7 +15,6 @@ use qq_log::Lane;
 use std::alloc::Global;
 
 const ONE_NODE: [&str; 2] = ["--queues=2", "--log-bytes=65536"];
-
 const THREE_NODES: [&str; 3] = ["--nodes=3", "--queues=2", "--log-bytes=65536"];
 
 /// More calls than any run makes of a disk.
@@ -108,38 +107,10 @@ fn stop_both(
     stopping: usize,
     image: &str,
 ) -> Result<()> {
-    stop_each(
-        rt,
-        options,
-        nodes,
-        stopping,
-        image,
-        |calls| [Stop::After(calls), Stop::Never],
-    )?;
-    stop_each(
-        rt,
-        options,
-        nodes,
-        stopping,
-        image,
-        |calls| [Stop::Once(calls), Stop::Never],
-    )?;
-    stop_each(
-        rt,
-        options,
-        nodes,
-        stopping,
-        image,
-        |calls| [Stop::Never, Stop::After(calls)],
-    )?;
-    stop_each(
-        rt,
-        options,
-        nodes,
-        stopping,
-        image,
-        |calls| [Stop::Never, Stop::Once(calls)],
-    )
+    stop_each(rt, options, nodes, stopping, image, |calls| [Stop::After(calls), Stop::Never])?;
+    stop_each(rt, options, nodes, stopping, image, |calls| [Stop::Once(calls), Stop::Never])?;
+    stop_each(rt, options, nodes, stopping, image, |calls| [Stop::Never, Stop::After(calls)])?;
+    stop_each(rt, options, nodes, stopping, image, |calls| [Stop::Never, Stop::Once(calls)])
 }
 
 fn confirmed_messages_survive_crashes_that_leave_nothing(rt: HostRuntime) -> Result<()> {

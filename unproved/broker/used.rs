@@ -27,7 +27,6 @@ impl Yard for UsedYard {
     type Disk = MemDisk;
 
     ghost faults = { ? };
-
     ghost is_given = { ? };
 
     fn disk(&mut self, alloc: Global, _: Option<&str>, _: NodeId) -> Result<MemDisk, YardFault> {

@@ -121,7 +121,6 @@ impl Yard for StoppingYard {
     type Disk = MemDisk;
 
     ghost faults = { ? };
-
     ghost is_given = { ? };
 
     fn disk(&mut self, alloc: Global, _: Option<&str>, node: NodeId) -> Result<MemDisk, YardFault> {
@@ -140,11 +139,6 @@ impl Yard for StoppingYard {
         let mut after = disk.crash(alloc, image)?;
         self.lanes[node] = lanes_on(alloc, &mut after);
         self.crashes += 1;
-        self.stop(
-            alloc,
-            node,
-            (self.crashes + self.nodes - 1) / self.nodes,
-            after,
-        )
+        self.stop(alloc, node, (self.crashes + self.nodes - 1) / self.nodes, after)
     }
 }
