@@ -40,14 +40,15 @@ pub fn serve<T: Taker>(
     Ok(text)
 }
 
-fn setup(rt: HostRuntime) -> Result<Setup> {
-    match Setup::plain(rt.alloc(), 3, 3, 1, 4_194_304) {
+/// Three nodes with this many queues, each replicated over all of them.
+fn setup(rt: HostRuntime, queues: u32) -> Result<Setup> {
+    match Setup::plain(rt.alloc(), 3, 3, queues, 4_194_304) {
         Ok(setup) => Ok(setup),
         Err(_) => bail!("no memory"),
     }
 }
 
-/// A broker of three new nodes with this many queues, each replicated over all of them.
+/// A broker of them over new disks.
 pub fn opened<T: Taker>(
     rt: HostRuntime,
     queues: u32,
@@ -59,10 +60,7 @@ pub fn opened<T: Taker>(
         MemDisk::new(alloc),
         MemDisk::new(alloc),
     ]?;
-    let Ok(setup) = Setup::plain(alloc, 3, 3, queues, 4_194_304) else {
-        bail!("no memory");
-    };
-    match open_disks(alloc, disks, setup, takers) {
+    match open_disks(alloc, disks, setup(rt, queues)?, takers) {
         Ok(broker) => Ok(broker),
         Err(_) => bail!("not opened"),
     }
@@ -71,15 +69,8 @@ pub fn opened<T: Taker>(
 /// Its nodes stop, and it is opened again with what it knew, and then by the disks alone.
 fn a_stopped_broker_goes_on_over_its_disks(rt: HostRuntime) -> Result<()> {
     let alloc = rt.alloc();
-    let disks = vec![in alloc;
-        MemDisk::new(alloc),
-        MemDisk::new(alloc),
-        MemDisk::new(alloc),
-    ]?;
     let mut takers = four_takers(alloc)?;
-    let Ok(mut broker) = open_disks(alloc, disks, setup(rt)?, &mut takers) else {
-        bail!("not opened");
-    };
+    let mut broker = opened(rt, 1, &mut takers)?;
     let said = serve(rt, &mut broker, &mut takers, &["publish a", "publish b"])?;
     ensure!(said.as_str() == "confirmed 1\nconfirmed 2\n", "{said}");
     ensure!(broker.pump(alloc, &mut takers) == Ok(Pumped::Idle));
@@ -92,7 +83,7 @@ fn a_stopped_broker_goes_on_over_its_disks(rt: HostRuntime) -> Result<()> {
                  3 1 enqueue 1 2 1 confirmed 2\n";
     ensure!(text.as_slice() == audit.as_bytes());
 
-    let Ok(mut broker) = reopen_disks(alloc, disks, setup(rt)?, audits, &mut takers) else {
+    let Ok(mut broker) = reopen_disks(alloc, disks, setup(rt, 1)?, audits, &mut takers) else {
         bail!("not opened again");
     };
     let lines = ["get", "crash 1 none", "crash 2 none", "publish c"];
@@ -101,7 +92,7 @@ fn a_stopped_broker_goes_on_over_its_disks(rt: HostRuntime) -> Result<()> {
 
     let (disks, audits) = broker.crash_all(alloc);
     drop(audits);
-    let Ok(mut broker) = open_disks(alloc, disks, setup(rt)?, &mut takers) else {
+    let Ok(mut broker) = open_disks(alloc, disks, setup(rt, 1)?, &mut takers) else {
         bail!("not opened by the disks alone");
     };
     let said = serve(rt, &mut broker, &mut takers, &["get 2 q1"])?;
@@ -113,14 +104,7 @@ fn a_stopped_broker_goes_on_over_its_disks(rt: HostRuntime) -> Result<()> {
 fn a_taker_is_given_once(rt: HostRuntime) -> Result<()> {
     let alloc = rt.alloc();
     let mut takers = four_takers(alloc)?;
-    let disks = vec![in alloc;
-        MemDisk::new(alloc),
-        MemDisk::new(alloc),
-        MemDisk::new(alloc),
-    ]?;
-    let Ok(mut broker) = open_disks(alloc, disks, setup(rt)?, &mut takers) else {
-        bail!("not opened");
-    };
+    let mut broker = opened(rt, 1, &mut takers)?;
     ensure!(takers.is_free(1));
     let lines = [
         "subscribe 1 q1 1 2",
