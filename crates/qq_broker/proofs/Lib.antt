@@ -19,7 +19,7 @@ mod GivenFree
 mod Gone
 pub mod Looped
 pub mod Closed
-pub mod Called
+pub mod Calls
 pub mod CallAnswers
 pub mod DrillAudits
 pub mod DrillEnds

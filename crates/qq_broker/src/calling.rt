@@ -1,5 +1,5 @@
 //! A client's command at one queue, answered with data and not with text; and what a queue's leader has.
-ghost use Rattle.std.specs.Prelude.{◌≡◌, ◌<◌, ◌∷◌, List, Option, Some, IfErr, IfOk, IsOkUnless, OnOk};
+ghost use Rattle.std.specs.Prelude.{◌≡◌, ◌<◌, ◌∷◌, [], List, Option, Some, IfErr, IfOk, IsOkUnless, OnOk};
 ghost use Rattle.qq_cluster.specs.Counts.{counts};
 ghost use Rattle.qq_cluster.specs.Rules.{IsGiven, IsPump, is_idle};
 ghost use Rattle.qq_cluster_queue.specs.Range.{MayStamp};
@@ -15,6 +15,7 @@ ghost use Rattle.qq_broker.specs.Nodes.{Meets};
 
 use crate::broker::{Broker, Pumped, give_back, lend, pump_outcome};
 use qq_base::{Memory, QueueId, SessionId};
+use qq_cluster::who_listens_hears_what_is_told;
 use qq_cluster_queue::Told;
 use qq_disk::NodeDisk;
 use qq_entry::{AuditRow, Unstamped};
@@ -188,7 +189,10 @@ fn hear_call<D: NodeDisk, T: Taker>(
         Err(memory) => return Err(memory),
     };
     let idle = nodes.is_idle();
-    answer(alloc, queue, outcome, pump_outcome(idle), list)
+    match answer(alloc, queue, outcome, pump_outcome(idle), list) {
+        Ok(called) => Ok(called),
+        Err(memory) => Err(memory),
+    }
 }
 
 impl<D: NodeDisk> Broker<D> {
@@ -225,6 +229,7 @@ impl<D: NodeDisk> Broker<D> {
             IfErr result (IsCallGivenUp (Meets given D.tells D.past D.faults 0 0)
             (setup_in self.old.setup run) run.events session.number body queue.0) }
     {
+        who_listens_hears_what_is_told();
         let mut text = Vec::new(alloc);
         let before = takers.hear_on(Some(Vec::new(alloc)));
         let mut told = lend(alloc, &mut text, takers);
