@@ -1,8 +1,8 @@
 -- What a call answers is true of its queue's audit, and a command is given to a ready leader.
-use Rattle.std.proofs.Common.{◌≡◌, ℕ, Bool, true, false, List, [], ◌∷◌, ◌++◌, Option, None, Some, Result, refl, sym, ap, subst, ◌∙◌}
-use Rattle.std.specs.Prelude.{◌&&◌, Contains, Ok, Err, filter, filter_map, nat_eq, if◌then◌else◌}
+use Rattle.std.proofs.Common.{◌≡◌, ℕ, Bool, true, false, List, [], ◌∷◌, ◌++◌, Option, None, Some, refl, sym, ap, subst, ◌∙◌}
+use Rattle.std.specs.Prelude.{Contains, Err, filter, filter_map, if◌then◌else◌}
 use Rattle.std.specs.List.{AllByRecursion, cons_option}
-use Rattle.std.proofs.lemmas.Bool.{cases_Bool, cond-true, cond-false, eqb-true}
+use Rattle.std.proofs.lemmas.Bool.{eqb-true}
 use Rattle.qq_base.proofs.Lists.{AllByRecursion-in}
 use Rattle.qq_entry.specs.Command.{stamp}
 use Rattle.qq_entry.specs.declared.answer.Answer.TheVariants.{Confirmed}
@@ -25,11 +25,11 @@ use Rattle.qq_taker.specs.declared.heard.What.TheVariants.{Answer, Delivery, Ref
 use Rattle.qq_cluster.specs.Cluster.{At, Cluster, ClusterEvent, Of, Printed, Setup, all_prints, cluster_after, new_cluster}
 use Rattle.qq_cluster.specs.ClusterLaws.{HasGroups, IsTrueOf, PrintsWhatIsTrue}
 use Rattle.qq_cluster.specs.Outcome.{all_heard, delivery_in, delivery_told}
-use Rattle.qq_cluster.specs.Queue.{Queue, Submits, TellsEnded, TellsNotTaken, audit_rows, has_leader}
+use Rattle.qq_cluster.specs.Queue.{Queue, Submits, TellsEnded, audit_rows, has_leader}
 use Rattle.qq_cluster.specs.Rules.{Is, IsClaimed, IsGiven, if_so, is_ended, not_taken}
 use Rattle.qq_cluster.proofs.Outcomes.{prints-both}
 use Rattle.qq_cluster_run.specs.Serving.{after_all}
-use Rattle.qq_broker.specs.Calling.{Answers, claimed_by, handed_heard, handed_to, heard_after, is_heard_at, outcome_at, outcome_heard, row_told, rows_heard}
+use Rattle.qq_broker.specs.Calling.{Answers, claimed_by, handed_to, heard_after, is_heard_at, outcome_at, outcome_heard, row_told}
 use Rattle.qq_broker.specs.declared.calling.Called.{Called}
 
 -- ---- what is heard is true
@@ -80,41 +80,34 @@ own-true c place (h ∷ rest) so =
     (λ is. subst (λ (n : ℕ). IsTrueAt c n h.what) (eqb-true h.queue.0 place is) so.0)
     (own-true c place rest so.1)
 
+row-first : (c : Cluster) (place : ℕ) (what : What) (rows : List AuditRow) → IsTrueAt c place what
+    → AllByRecursion (λ (row : AuditRow). IsTrueOf c (Of place (Answered row))) rows
+    → AllByRecursion (λ (row : AuditRow). IsTrueOf c (Of place (Answered row))) (cons_option (row_told what) rows)
+row-first c place (Answer row) rows so more = (so, more)
+row-first c place (Delivery handed) rows so more = more
+row-first c place (Refused session why) rows so more = more
+
 rows-true : (c : Cluster) (place : ℕ) (list : List Heard)
     → AllByRecursion (λ (h : Heard). IsTrueAt c place h.what) list
     → AllByRecursion (λ (row : AuditRow). IsTrueOf c (Of place (Answered row)))
     (filter_map (λ (h : Heard). row_told h.what) list)
 rows-true c place [] so = tt
-rows-true c place (h ∷ rest) so = by h.what so.0
-  where
-    more : AllByRecursion (λ (row : AuditRow). IsTrueOf c (Of place (Answered row)))
-        (filter_map (λ (g : Heard). row_told g.what) rest)
-    more = rows-true c place rest so.1
+rows-true c place (h ∷ rest) so = row-first c place h.what _ so.0 (rows-true c place rest so.1)
 
-    by : (what : What) → IsTrueAt c place what
-        → AllByRecursion (λ (row : AuditRow). IsTrueOf c (Of place (Answered row)))
-        (cons_option (row_told what) (filter_map (λ (g : Heard). row_told g.what) rest))
-    by (Answer row) true' = (true', more)
-    by (Delivery handed) true' = more
-    by (Refused session why) true' = more
+handed-first : (c : Cluster) (place : ℕ) (what : What) (list : List Handed) → IsTrueAt c place what
+    → AllByRecursion (λ (h : Handed). IsTrueOf c (Of place (Delivered h.consumer h.delivery))) list
+    → AllByRecursion (λ (h : Handed). IsTrueOf c (Of place (Delivered h.consumer h.delivery)))
+    (cons_option (delivery_told what) list)
+handed-first c place (Answer row) list so more = more
+handed-first c place (Delivery handed) list so more = (so, more)
+handed-first c place (Refused session why) list so more = more
 
 handed-true : (c : Cluster) (place : ℕ) (list : List Heard)
     → AllByRecursion (λ (h : Heard). IsTrueAt c place h.what) list
     → AllByRecursion (λ (h : Handed). IsTrueOf c (Of place (Delivered h.consumer h.delivery)))
     (filter_map delivery_in list)
 handed-true c place [] so = tt
-handed-true c place (h ∷ rest) so = by h.what so.0
-  where
-    more : AllByRecursion (λ (g : Handed). IsTrueOf c (Of place (Delivered g.consumer g.delivery)))
-        (filter_map delivery_in rest)
-    more = handed-true c place rest so.1
-
-    by : (what : What) → IsTrueAt c place what
-        → AllByRecursion (λ (g : Handed). IsTrueOf c (Of place (Delivered g.consumer g.delivery)))
-        (cons_option (delivery_told what) (filter_map delivery_in rest))
-    by (Answer row) true' = more
-    by (Delivery handed) true' = (true', more)
-    by (Refused session why) true' = more
+handed-true c place (h ∷ rest) so = handed-first c place h.what _ so.0 (handed-true c place rest so.1)
 
 -- ---- of a call
 
@@ -132,7 +125,7 @@ module _ (law : PrintsTrue) (setup : Setup) (events early late : List ClusterEve
   c = after_all setup events
 
   abbrev then' : Cluster
-  then' = after_all setup (events ++ early ++ late)
+  then' = after_all setup (events ++ (early ++ late))
 
   -- what the pump has printed
   last-true : AllByRecursion (IsTrueOf then') (all_prints setup (cluster_after c early) late)
@@ -141,7 +134,7 @@ module _ (law : PrintsTrue) (setup : Setup) (events early late : List ClusterEve
       (subst (AllByRecursion (IsTrueOf then')) (prints-both setup c early late)
       (all-last (IsTrueOf then') (all_prints setup (new_cluster setup) events) (all_prints setup c (early ++ late))
       (subst (AllByRecursion (IsTrueOf then')) (prints-both setup (new_cluster setup) events (early ++ late))
-      (law setup (events ++ early ++ late) groups))))
+      (law setup (events ++ (early ++ late)) groups))))
 
   own : AllByRecursion (λ (h : Heard). IsTrueAt then' place h.what)
       (filter (is_heard_at place) (heard_after setup (cluster_after c early) late))

@@ -32,19 +32,19 @@ pub fn a_call_answers_what_is_true()
         (called : Called) (row : AuditRow) → HasGroups setup →
         Answers setup (after_all setup events) place early late called →
         Contains called.rows.items row →
-        Contains (audit_rows ((after_all setup (events ++ early ++ late)).queue place)) row }
+        Contains (audit_rows ((after_all setup (events ++ (early ++ late))).queue place)) row }
     ensures confirmed { (setup : Setup) (events early late : List ClusterEvent) (place : ℕ)
         (called : Called) (row : AuditRow) (by : Stamp) → HasGroups setup →
         Answers setup (after_all setup events) place early late called →
         Contains called.rows.items row → stamp row.entry.command ≡ Some by →
         row.answer ≡ Confirmed → ExactlyOne (IsConfirmedPublish by.session by.seq)
-        (audit_rows ((after_all setup (events ++ early ++ late)).queue place)) }
+        (audit_rows ((after_all setup (events ++ (early ++ late))).queue place)) }
     ensures effects { (setup : Setup) (events early late : List ClusterEvent) (place : ℕ)
         (called : Called) (handed : Handed) → HasGroups setup →
         Answers setup (after_all setup events) place early late called →
         Contains called.effects.items handed → Contains (effects_of
-        (empty_queue ((after_all setup (events ++ early ++ late)).queue place).args)
-        ((after_all setup (events ++ early ++ late)).queue place).group.audit)
+        (empty_queue ((after_all setup (events ++ (early ++ late))).queue place).args)
+        ((after_all setup (events ++ (early ++ late))).queue place).group.audit)
         (Deliver handed.consumer handed.delivery) }
 {
     a_cluster_prints_what_is_true();
