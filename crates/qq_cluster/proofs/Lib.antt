@@ -11,6 +11,7 @@ mod Numbers
 mod Given
 mod PrintedOnce
 mod Leads
+mod Counting
 mod SessionLaws
 pub mod Counts
 pub mod EachQueue

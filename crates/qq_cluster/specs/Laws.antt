@@ -159,9 +159,8 @@ gives number (Attaches session tag other) = nat_eq other number
 gives number _ = false
 
 -- a queue's taker of this number, among the events, is given to one consumer alone: no consumer has one of this number,
--- this one has none, nothing waits for it, and no later event gives it again
+-- this one has none, and no later event gives it again
 pub record IsNewTaker (number : ℕ) (consumer : ConsumerId) (q : Queue) (since : List Event) : Type 0 where
   pub new : list_all (λ (seat : Seat). not (nat_eq seat.number number)) q.seats ≡ true
   pub free : taker_of consumer q.seats ≡ None
-  pub told : deliveries_waiting consumer q.untold ≡ []
   pub once : list_all (λ (event : Event). not (gives number event)) since ≡ true

@@ -22,8 +22,9 @@ pub use consumers::{
 pub use ended::{an_ended_session_gives_no_commands, ends_go_to_the_leader};
 pub use examples::{worked_consumers_print, worked_scripts_print, worked_takers_print};
 pub use queues::{
-    a_leader_answers_its_own_term, a_queue_is_its_group, a_queue_may_begin_with_new_logs,
-    an_audit_is_serial, commands_go_to_the_leader, ops_are_noticed_once_synced,
+    a_leader_answers_its_own_term, a_leader_counts_by_the_audit, a_queue_is_its_group,
+    a_queue_may_begin_with_new_logs, an_audit_is_serial, commands_go_to_the_leader,
+    ops_are_noticed_once_synced,
 };
 pub use sessions::{
     answers_are_printed_once, carried_out_commands_were_given, sessions_go_on,
@@ -31,6 +32,6 @@ pub use sessions::{
 };
 pub use takers::{
     a_consumer_has_one_taker, nothing_waits_between_lines, takers_see_runs_of_deliveries,
-    who_listens_hears_what_is_delivered,
+    who_listens_hears_what_is_told,
 };
 pub use texts::{a_cluster_tells_its_state, a_lost_command_is_told};

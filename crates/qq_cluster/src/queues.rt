@@ -1,12 +1,12 @@
 //! The laws of a queue of a cluster, whatever happens to it.
-ghost use Rattle.std.specs.Prelude.{◌≡◌, ◌≤◌, ◌<◌, ◌∷◌, [], List, ℕ, false, Some, None, length, map};
+ghost use Rattle.std.specs.Prelude.{◌≡◌, ◌≤◌, ◌<◌, ◌∷◌, [], List, ℕ, false, true, Some, None, is_some, length, map, take};
 ghost use Rattle.std.specs.List.{AllByRecursion};
 ghost use Rattle.qq_base.specs.declared.ids.NodeId.{NodeId};
 ghost use Rattle.qq_base.specs.declared.ids.QueueId.{QueueId};
 ghost use Rattle.qq_entry.specs.declared.command.Command.{Command};
 ghost use Rattle.qq_entry.specs.declared.command.Unstamped.{Unstamped};
 ghost use Rattle.qq_entry.specs.declared.queue.QueueArgs.{QueueArgs};
-ghost use Rattle.qq_model.specs.Audit.{IsSerial};
+ghost use Rattle.qq_model.specs.Audit.{IsSerial, state_after};
 ghost use Rattle.qq_model.specs.State.{empty_queue};
 ghost use Rattle.qq_model.specs.declared.TheConstants.{WINDOW};
 ghost use Rattle.qq_raft_model.specs.Group.{Group, group_after, new_group};
@@ -16,6 +16,7 @@ ghost use Rattle.qq_raft_model.specs.Server.{is_ready};
 ghost use Rattle.qq_raft_model.specs.State.{Server};
 ghost use Rattle.qq_session.specs.Publishing.{next_command, hand, open_commands};
 ghost use Rattle.qq_session.specs.Shown.{NoLeader, WindowFull};
+ghost use Rattle.qq_cluster.specs.Counts.{counts, counts_of};
 ghost use Rattle.qq_cluster.specs.Laws.{CountsRise, IsBegun, IsOwnTo, KeepsAudit, all_moves, queue_after};
 ghost use Rattle.qq_cluster.specs.Queue.{Event, Queue, Submits, Resends, audit_rows, begin, happens, leader, moves, own_effects, own_rows, said};
 
@@ -61,6 +62,16 @@ pub fn a_leader_answers_its_own_term()
         AllByRecursion (IsOwnTo t) (own_rows args s t) }
     ensures effects { (args : QueueArgs) (s t : Server) → is_ready t ≡ false →
         own_effects args s t ≡ [] }
+{}
+
+/// A law: where a ready leader has applied the whole audit, a queue counts what is in the state that the audit leads
+/// to. Without a leader nothing is counted.
+pub fn a_leader_counts_by_the_audit()
+    ensures whole { (q : Queue) (k : ℕ) (s : Server) → leader q.group ≡ Some k →
+        (q.group.seat k).server ≡ Some s → take s.commit s.log ≡ q.group.audit →
+        counts q ≡ Some (counts_of (state_after (empty_queue q.args) q.group.audit)) }
+    ensures nobody { (q : Queue) → leader q.group ≡ None → counts q ≡ None }
+    ensures somebody { (q : Queue) (k : ℕ) → leader q.group ≡ Some k → is_some (counts q) ≡ true }
 {}
 
 /// A law: a command that gets a number goes to the leader. Where there is none, and only there, the

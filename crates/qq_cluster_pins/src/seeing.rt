@@ -1,26 +1,35 @@
 //! Laws of what takers see, and of what is left between lines: the functions do nothing, and their contracts are the
 //! laws.
-ghost use Rattle.std.specs.Prelude.{◌≡◌, ◌≢◌, ◌++◌, ◌∷◌, [], ℕ, List, Option, Some, None, false, Contains, drop, filter_map, find, length, map, take};
+ghost use Rattle.std.specs.Prelude.{◌≡◌, ◌≢◌, ◌++◌, ◌∷◌, [], ℕ, List, Option, Some, None, true, false, ◌,◌, Contains, drop, filter_map, find, length, map, take};
 ghost use Rattle.qq_base.specs.Ids.{client, same_consumer};
 ghost use Rattle.qq_base.specs.declared.ids.ConsumerId.{ConsumerId};
+ghost use Rattle.qq_base.specs.declared.ids.QueueId.{QueueId};
 ghost use Rattle.qq_entry.specs.declared.answer.Delivery.{Delivery};
 ghost use Rattle.qq_entry.specs.declared.audit.AuditRow.{AuditRow};
 ghost use Rattle.qq_entry.specs.declared.queue.QueueArgs.{QueueArgs};
 ghost use Rattle.qq_model.specs.Audit.{audit_of, deliveries};
-ghost use Rattle.qq_model.specs.State.{empty_queue};
+ghost use Rattle.qq_model.specs.Limits.{is_ready};
+ghost use Rattle.qq_model.specs.State.{State, empty_queue};
+ghost use Rattle.qq_model.specs.declared.consumer.Consumer.{Consumer};
+ghost use Rattle.qq_model.specs.declared.place.Row.{Row};
+ghost use Rattle.qq_raft_model.specs.State.{Server};
 ghost use Rattle.qq_raft_model.specs.Group.{Group};
 ghost use Rattle.qq_script_lines.specs.declared.line.ScriptLine.{ScriptLine};
 ghost use Rattle.qq_session.specs.Shown.{Answered, Attached, Delivered, Dropped, HasEnded, IsBusy, NoLeader, NotTaken, Taken, WindowFull};
 ghost use Rattle.qq_taker.specs.Takers.{Free, Given, Gone, Held, Takers, taker_at};
 ghost use Rattle.qq_taker.specs.declared.handed.Handed.{Handed};
+ghost use Rattle.qq_taker.specs.declared.heard.Heard.{Heard};
+ghost use Rattle.qq_taker.specs.declared.heard.Refusal.TheVariants as refusals;
+ghost use Rattle.qq_taker.specs.declared.heard.What.TheVariants as whats;
 ghost use Rattle.qq_taker.specs.declared.seats.Seat.{Seat};
 ghost use Rattle.qq_taker.specs.declared.taker.Seen.{Seen};
 ghost use Rattle.qq_taker.specs.declared.taker.Verdict.{Verdict};
 ghost use Rattle.qq_taker.specs.declared.taker.Verdict.TheVariants.{Discard, Keep, Settle};
-ghost use Rattle.qq_cluster.specs.Cluster.{At, Cluster, ClusterEvent, Setup, cluster_after, new_cluster};
+ghost use Rattle.qq_cluster.specs.Cluster.{At, Busy, Cluster, ClusterEvent, Ended, IsDown, NoSuch, Of, Setup, State as StateOf, Stopped, Unroutable, cluster_after, new_cluster};
+ghost use Rattle.qq_cluster.specs.Counts.{counts_of};
 ghost use Rattle.qq_cluster.specs.Laws.{IsBegun, deliveries_shown, seen_by};
 ghost use Rattle.qq_cluster.specs.Lines.{IsLine, IsRun};
-ghost use Rattle.qq_cluster.specs.Outcome.{sees, sees_all, takers_after};
+ghost use Rattle.qq_cluster.specs.Outcome.{all_heard, deliveries_among, sees, sees_all, takers_after};
 ghost use Rattle.qq_cluster.specs.Queue.{Attaches, Event, after, all_said, begin, said};
 
 use qq_cluster::{nothing_waits_between_lines, takers_see_runs_of_deliveries};
@@ -32,33 +41,43 @@ use qq_taker::{
 /// A law: what a queue shows is what its takers see.
 ///
 /// - `given`, `taken`, `dropped`: a taker that is given to a consumer, takes a delivery, and is dropped.
-/// - `told`, `heard`: a delivery to a consumer without a taker is heard by who listens, and no taker sees it.
-/// - `same`: what else is shown they don't see.
+/// - `told`, `answered`, `refused`: no taker sees a delivery to a consumer without one, an answer, or that a command
+///   wasn't given to a leader.
+/// - `same`: nor that a consumer has a taker, which nobody hears either.
+/// - `unheard`: where nobody listens, what is told leaves all as it was.
 /// - `event`, `later`: what an event of a queue shows, they see, and what comes later after that.
 /// - `none`: they see nothing at any other event.
 pub fn takers_see_what_is_shown()
-    ensures given { (all : Takers) (session number : ℕ) (seen : Option (List Seen)) →
+    ensures given { (all : Takers) (place session number : ℕ) (seen : Option (List Seen)) →
         taker_at number all ≡ Some (Free seen) →
-        taker_at number (sees (Attached session number) all) ≡ Some (Given seen) }
-    ensures taken { (all : Takers) (number : ℕ) (seen : List Seen) (consumer : ConsumerId)
+        taker_at number (sees place (Attached session number) all) ≡ Some (Given seen) }
+    ensures taken { (all : Takers) (place number : ℕ) (seen : List Seen) (consumer : ConsumerId)
         (d : Delivery) (verdict : Verdict) → taker_at number all ≡ Some (Given (Some seen)) →
-        taker_at number (sees (Taken number consumer d verdict) all) ≡ Some (Given (Some
+        taker_at number (sees place (Taken number consumer d verdict) all) ≡ Some (Given (Some
         (seen ++ record { id = d.id; arrival = d.arrival; verdict = verdict } ∷ []))) }
-    ensures dropped { (all : Takers) (session number : ℕ) (held : Held) →
+    ensures dropped { (all : Takers) (place session number : ℕ) (held : Held) →
         taker_at number all ≡ Some held →
-        taker_at number (sees (Dropped session number) all) ≡ Some Gone }
-    ensures told { (all : Takers) (number : ℕ) (consumer : ConsumerId) (d : Delivery) →
-        taker_at number (sees (Delivered consumer d) all) ≡ taker_at number all }
-    ensures heard { (all : Takers) (list : List Handed) (consumer : ConsumerId) (d : Delivery) →
-        all.heard ≡ Some list → (sees (Delivered consumer d) all).heard
-        ≡ Some (list ++ record { consumer = consumer; delivery = d } ∷ []) }
-    ensures same { (all : Takers) (row : AuditRow) (session id : ℕ) →
-        (sees (Answered row) all ≡ all) × (sees (NoLeader session) all ≡ all)
-        × (sees (WindowFull session) all ≡ all) × (sees (HasEnded session) all ≡ all)
-        × (sees (NotTaken session id) all ≡ all) × (sees (IsBusy session id) all ≡ all) }
+        taker_at number (sees place (Dropped session number) all) ≡ Some Gone }
+    ensures told { (all : Takers) (place number : ℕ) (consumer : ConsumerId) (d : Delivery) →
+        taker_at number (sees place (Delivered consumer d) all) ≡ taker_at number all }
+    ensures answered { (all : Takers) (place number : ℕ) (row : AuditRow) →
+        taker_at number (sees place (Answered row) all) ≡ taker_at number all }
+    ensures refused { (all : Takers) (place number session id : ℕ) →
+        (taker_at number (sees place (NoLeader session) all) ≡ taker_at number all)
+        × (taker_at number (sees place (WindowFull session) all) ≡ taker_at number all)
+        × (taker_at number (sees place (HasEnded session) all) ≡ taker_at number all)
+        × (taker_at number (sees place (NotTaken session id) all) ≡ taker_at number all) }
+    ensures same { (all : Takers) (place session number : ℕ) →
+        sees place (IsBusy session number) all ≡ all }
+    ensures unheard { (all : Takers) (place session id : ℕ) (row : AuditRow) (d : Delivery)
+        (consumer : ConsumerId) → all.heard ≡ None →
+        (sees place (Answered row) all ≡ all) × (sees place (Delivered consumer d) all ≡ all)
+        × (sees place (NoLeader session) all ≡ all) × (sees place (WindowFull session) all ≡ all)
+        × (sees place (HasEnded session) all ≡ all)
+        × (sees place (NotTaken session id) all ≡ all) }
     ensures event { (setup : Setup) (c : Cluster) (place : ℕ) (event : Event) (all : Takers) →
         takers_after setup c (At place event ∷ []) all
-        ≡ sees_all (said (c.queue place) event) all }
+        ≡ sees_all place (said (c.queue place) event) all }
     ensures later { (setup : Setup) (c : Cluster) (events more : List ClusterEvent)
         (all : Takers) → takers_after setup c (events ++ more) all
         ≡ takers_after setup (cluster_after c events) more (takers_after setup c events all) }
@@ -71,10 +90,54 @@ pub fn takers_see_what_is_shown()
     takers_see_nothing_after_the_drop();
 }
 
+/// A law: what who listens hears.
+///
+/// - `told`: answers, deliveries to consumers without a taker, and that commands weren't given to a leader, each with
+///   its queue, in the order in which they are printed.
+/// - `one`: after what was heard before.
+/// - `none`: nothing of takers, nor what is printed of no queue's clients.
+/// - `deliveries`: the deliveries among what was heard, in order.
+pub fn who_listens_hears_this()
+    ensures told { (row : AuditRow) (consumer : ConsumerId) (d : Delivery) →
+        all_heard (Of 3 (Answered row) ∷ Of 4 (Delivered consumer d) ∷ Of 3 (NoLeader 5)
+        ∷ Of 3 (WindowFull 6) ∷ Of 3 (HasEnded 7) ∷ Of 3 (NotTaken 8 9) ∷ [])
+        ≡ record { queue = record { 0 = 3 }; what = whats.Answer row }
+        ∷ record { queue = record { 0 = 4 };
+        what = whats.Delivery (record { consumer = consumer; delivery = d }) }
+        ∷ record { queue = record { 0 = 3 }; what = whats.Refused 5 refusals.NoLeader }
+        ∷ record { queue = record { 0 = 3 }; what = whats.Refused 6 refusals.WindowFull }
+        ∷ record { queue = record { 0 = 3 }; what = whats.Refused 7 refusals.Ended }
+        ∷ record { queue = record { 0 = 3 }; what = whats.Refused 8 (refusals.NotTaken 9) }
+        ∷ [] }
+    ensures one { (all : Takers) (list : List Heard) (row : AuditRow) → all.heard ≡ Some list →
+        (sees 3 (Answered row) all).heard
+        ≡ Some (list ++ record { queue = record { 0 = 3 }; what = whats.Answer row } ∷ []) }
+    ensures none { (consumer : ConsumerId) (d : Delivery) (verdict : Verdict)
+        (server : Option Server) →
+        all_heard (Of 3 (Taken 1 consumer d verdict) ∷ Of 3 (Attached 5 1) ∷ Of 3 (Dropped 5 1)
+        ∷ Of 3 (IsBusy 5 1) ∷ Stopped 1 ∷ IsDown 1 ∷ NoSuch ∷ Unroutable ∷ Busy ∷ Ended
+        ∷ StateOf 3 1 server ∷ []) ≡ [] }
+    ensures deliveries { (queue : QueueId) (row : AuditRow) (first second : Handed) →
+        deliveries_among (record { queue = queue; what = whats.Answer row }
+        ∷ record { queue = queue; what = whats.Delivery first }
+        ∷ record { queue = queue; what = whats.Refused 5 refusals.NoLeader }
+        ∷ record { queue = queue; what = whats.Delivery second } ∷ []) ≡ first ∷ second ∷ [] }
+{}
+
+/// A law: what a queue's leader counts: the ready messages, and the consumers that weren't cancelled.
+pub fn counts_are_of_ready_messages_and_consumers()
+    ensures rows { (s : State) (first second third : Row) → s.consumers ≡ [] →
+        s.rows ≡ first ∷ second ∷ third ∷ [] → is_ready first.place ≡ true →
+        is_ready second.place ≡ false → is_ready third.place ≡ true → counts_of s ≡ (2, 0) }
+    ensures consumers { (s : State) (first second third : Consumer) → s.rows ≡ [] →
+        s.consumers ≡ first ∷ second ∷ third ∷ [] → first.cancelled ≡ false →
+        second.cancelled ≡ true → third.cancelled ≡ false → counts_of s ≡ (0, 2) }
+{}
+
 /// A law: what a taker sees of its consumer's deliveries.
 ///
-/// - `run`: a taker's number that no consumer of the queue has is given to one without a taker, for which no delivery
-///   waits, and is never given again. Of all deliveries that the audit has for the consumer the taker sees a run: it
+/// - `run`: a taker's number that no consumer of the queue has is given to one without a taker, and is never given
+///   again. Of all deliveries that the audit has for the consumer the taker sees a run: it
 ///   begins after those that were shown before.
 /// - `seen`: what it sees are the deliveries that are shown with its number, whatever is shown beside.
 /// - `shown`: a delivery to a consumer is shown by itself or with a verdict.
@@ -89,7 +152,6 @@ pub fn a_taker_sees_a_run_of_deliveries()
         let early = length (deliveries_shown id (all_said (begin args group) before)) in
         ((seat : Seat) → Contains q.seats seat → seat.number ≢ number) →
         find (λ (seat : Seat). same_consumer seat.consumer id) q.seats ≡ None →
-        ((h : Handed) → Contains q.untold h → same_consumer h.consumer id ≡ false) →
         ((own other : ℕ) → Contains since (Attaches own other number) → ⊥) →
         (map (λ (one : Seen). one.id) seen
         ≡ map (λ (one : Delivery). one.id) (take (length seen) (drop early all)))

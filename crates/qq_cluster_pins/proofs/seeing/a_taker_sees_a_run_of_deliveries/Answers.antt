@@ -5,9 +5,9 @@ use Rattle.qq_cluster_pins.proofs.Looking.{new-taker}
 use Rattle.qq_cluster_pins.proofs.seeing.a_taker_sees_a_run_of_deliveries.Goals as goal
 
 pub returns-clause-run : goal.returns-clause-run
-returns-clause-run c = λ args group before since session tag number begun new free told once.
+returns-clause-run c = λ args group before since session tag number begun new free once.
     let run = c.takers_see_runs_of_deliveries.ensures args group before since session tag number begun
-    (new-taker number (consumer_of session tag) (queue_after args group before) since new free told once) in
+    (new-taker number (consumer_of session tag) (queue_after args group before) since new free once) in
     (run.ids, run.arrivals)
 
 pub returns-clause-seen : goal.returns-clause-seen

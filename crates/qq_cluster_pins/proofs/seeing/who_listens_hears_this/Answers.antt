@@ -1,0 +1,18 @@
+use Rattle.std.proofs.Common.{List, [], ◌∷◌, ◌++◌, ap, refl}
+use Rattle.std.specs.Option.{option_map}
+use Rattle.qq_taker.specs.declared.heard.Heard.{Heard}
+use Rattle.qq_taker.specs.declared.heard.What.TheVariants.{Answer}
+use Rattle.qq_cluster_pins.proofs.seeing.who_listens_hears_this.Goals as goal
+
+pub returns-clause-told : goal.returns-clause-told
+returns-clause-told c = λ row consumer d. refl
+
+pub returns-clause-one : goal.returns-clause-one
+returns-clause-one c = λ all list row heard.
+    ap (option_map (λ (l : List Heard). l ++ record { queue = record { 0 = 3 }; what = Answer row } ∷ [])) heard
+
+pub returns-clause-none : goal.returns-clause-none
+returns-clause-none c = λ consumer d verdict server. refl
+
+pub returns-clause-deliveries : goal.returns-clause-deliveries
+returns-clause-deliveries c = λ queue row first second. refl
