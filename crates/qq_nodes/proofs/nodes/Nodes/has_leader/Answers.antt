@@ -18,7 +18,7 @@ leader-requires g c =
 
 pub returns : goal.returns
 returns g c = λ setup d st.
-    sym (some-number c.leader.result)
+    c.is_some.ensures ∙ sym (some-number c.leader.result)
     ∙ ap (λ (o : Option ℕ). is_some o)
     (sym (told-at (λ q. leader q.group ≡ number_of c.leader.result) c.args.self.now c.args.queue _ c.requires.queue
     (item-here c.args.self.now.queues.items (c.args.queue.0 - 1) _
