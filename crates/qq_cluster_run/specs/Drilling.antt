@@ -1,12 +1,11 @@
 -- A drill as a run: which parts it has, which lines these serve by what was told before, and what is told of it at the end.
-use Rattle.std.specs.Prelude.{◌≡◌, ◌⊎◌, ℕ, ◌+◌, ◌-◌, List, [], ◌∷◌, ◌++◌, length, map, take, Bool, false, ◌&&◌, Option, codes, count_by, if◌then◌else◌}
+use Rattle.std.specs.Prelude.{◌≡◌, ◌⊎◌, ℕ, ◌+◌, ◌-◌, List, [], ◌∷◌, ◌++◌, length, map, take, Bool, false, codes, count_by, if◌then◌else◌}
 use Rattle.std.specs.List.{flat_map, range_with_len}
 use Rattle.hex.specs.Hex.{encode_lower}
 use Rattle.sha2.specs.Sha256.{sha256}
 use Rattle.qq_base.specs.declared.ids.NodeId.{NodeId}
 use Rattle.qq_base.specs.declared.ids.QueueId.{QueueId}
 use Rattle.qq_entry.specs.declared.audit.AuditRow.{AuditRow}
-use Rattle.qq_laws.specs.Published.{is_confirmed}
 use Rattle.qq_script_lines.specs.declared.line.ScriptLine.{ScriptLine}
 use Rattle.qq_script_lines.specs.declared.line.ScriptLine.TheVariants.{Pump, Tick}
 use Rattle.qq_setup.specs.Members.{members}
@@ -15,6 +14,7 @@ use Rattle.qq_taker.specs.declared.handed.Handed.{Handed}
 use Rattle.qq_words.specs.declared.options.TheConstants.{LOG_BYTES}
 use Rattle.qq_drill.specs.Drill.{Drill, after_step, hear, is_sixteenth, last_restart, new_drill, resends, step_lines}
 use Rattle.qq_cluster.specs.Cluster.{Setup as ClusterSetup, Cluster, ClusterEvent, all_prints, cluster_after, new_cluster}
+use Rattle.qq_cluster.specs.Confirmed.{is_confirmed_row}
 use Rattle.qq_cluster.specs.Lines.{IsScript}
 use Rattle.qq_cluster.specs.Outcome.{all_heard, deliveries_among}
 use Rattle.qq_cluster.specs.Queue.{audit_rows, has_leader}
@@ -115,10 +115,6 @@ AreParts setup (part ∷ parts) k c events later =
 -- the rows of all audits
 abbrev pub all_rows : ClusterSetup → Cluster → List AuditRow
 all_rows setup c = flat_map (λ place. audit_rows (c.queue place)) setup.places
-
--- a row says `confirmed`, and not `again`
-abbrev pub is_confirmed_row : AuditRow → Bool
-is_confirmed_row row = row.fresh && is_confirmed row.answer
 
 -- the first 16 hexadecimal digits of a digest
 abbrev pub first_digits : (digest : List ℕ) → List ℕ
