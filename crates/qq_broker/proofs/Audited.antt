@@ -1,9 +1,8 @@
 -- Audits are written row by row.
-use Rattle.std.proofs.Common.{◌≡◌, ◌<◌, ◌≤◌, ◌+◌, ℕ, Bool, List, [], ◌++◌, Option, drop, flat_map, get_or, length, map, sym, ap, subst, ◌∙◌}
+use Rattle.std.proofs.Common.{◌≡◌, ◌<◌, ◌≤◌, ◌+◌, ℕ, Bool, List, [], ◌++◌, drop, flat_map, get_or, length, map, sym, ap, subst, ◌∙◌}
 use Rattle.std.specs.Prelude.{Contains}
-use Rattle.std.specs.Io.KnownBytes.{Appends}
 use Rattle.qq_disk.specs.Disk.{Disk}
-use Rattle.qq_ports.specs.Faults.{AppendsPrefix}
+use Rattle.qq_ports.specs.Streams.{SinkState, Writes, WritesPart}
 use Rattle.qq_script.specs.Audit.{audit_text}
 use Rattle.qq_setup.specs.declared.queue_row.QueueRow.{QueueRow}
 use Rattle.qq_setup.specs.declared.setup.Setup.{Setup}
@@ -32,11 +31,11 @@ module _ {D : Type 0} (tells : D → Bool) (past : D → List Disk) (faults : D 
   OfRuns Is = (given : Giving D) (run : Run) → Holds given tells past faults s held run → Is run
 
   -- all was written but what stands in a text, and the audits of the rows from one on
-  abbrev pub AuditsOn : (a b : Option (List ℕ)) (said : List ℕ) (rows : List QueueRow) (i : ℕ) → Type 0
+  abbrev pub AuditsOn : (a b : SinkState) (said : List ℕ) (rows : List QueueRow) (i : ℕ) → Type 0
   AuditsOn a b said rows i =
       OfRuns (λ run. HasPrefix a b (audits_of s run) (said ++ flat_map (row_audit (cluster_in s run)) (drop i rows)))
 
-  pub audits-start : (a : Option (List ℕ)) (said : List ℕ) (rows : List QueueRow) → MayRun s → said ≡ []
+  pub audits-start : (a : SinkState) (said : List ℕ) (rows : List QueueRow) → MayRun s → said ≡ []
       → rows ≡ s.queues → AuditsOn a a said rows 0
   audits-start a said rows runs none are = λ given run h.
       subst (HasPrefix a a (audits_of s run))
@@ -75,7 +74,7 @@ module _ {D : Type 0} (tells : D → Bool) (past : D → List Disk) (faults : D 
       ∙ ap (λ (n : List ℕ). before ++ audit_text n 0 (audit_rows (c.queue (place_of row)))) name
 
   -- it moves from what is left to the text
-  row-moves : (a b : Option (List ℕ)) (said text : List ℕ) (rows : List QueueRow) (i : ℕ) (row : QueueRow) → MayRun s
+  row-moves : (a b : SinkState) (said text : List ℕ) (rows : List QueueRow) (i : ℕ) (row : QueueRow) → MayRun s
       → IsRowAt rows i row → AuditsOn a b said rows i → AddsAudit row said text → (given : Giving D) (run : Run)
       → Holds given tells past faults s held run
       → HasPrefix a b (audits_of s run) (text ++ flat_map (row_audit (cluster_in s run)) (drop (i + 1) rows))
@@ -86,7 +85,7 @@ module _ {D : Type 0} (tells : D → Bool) (past : D → List Disk) (faults : D 
       (sym (row-adds rows i row said text runs at adds given run h))
       (next_item (row_audit (cluster_in s run)) a b (audits_of s run) said rows i row at.1 at.2 (so given run h))
 
-  pub audits-next : (a b d : Option (List ℕ)) (said text later : List ℕ) (rows : List QueueRow) (i : ℕ) (row : QueueRow)
+  pub audits-next : (a b d : SinkState) (said text later : List ℕ) (rows : List QueueRow) (i : ℕ) (row : QueueRow)
       → MayRun s → IsRowAt rows i row → AuditsOn a b said rows i → AddsAudit row said text → HasPrefix b d text later
       → AuditsOn a d later rows (i + 1)
   audits-next a b d said text later rows i row runs at so adds part = λ given run h.
@@ -96,7 +95,7 @@ module _ {D : Type 0} (tells : D → Bool) (past : D → List Disk) (faults : D 
   -- ---- how it ends
 
   -- a first part was written of a piece
-  pub audits-cut : (a b d : Option (List ℕ)) (said text : List ℕ) (rows : List QueueRow) (i : ℕ) (row : QueueRow)
+  pub audits-cut : (a b d : SinkState) (said text : List ℕ) (rows : List QueueRow) (i : ℕ) (row : QueueRow)
       → MayRun s → IsRowAt rows i row → AuditsOn a b said rows i → AddsAudit row said text → HasSomePrefix b d text
       → OfRuns (λ run. HasSomePrefix a d (audits_of s run))
   audits-cut a b d said text rows i row runs at so adds part = λ given run h.
@@ -104,24 +103,24 @@ module _ {D : Type 0} (tells : D → Bool) (past : D → List Disk) (faults : D 
       (row-moves a b said text rows i row runs at so adds given run h) part
 
   -- no more is written
-  pub audits-stop : (a b : Option (List ℕ)) (said : List ℕ) (rows : List QueueRow) (i : ℕ) → AuditsOn a b said rows i
+  pub audits-stop : (a b : SinkState) (said : List ℕ) (rows : List QueueRow) (i : ℕ) → AuditsOn a b said rows i
       → OfRuns (λ run. HasSomePrefix a b (audits_of s run))
   audits-stop a b said rows i so = λ given run h.
       (said ++ flat_map (row_audit (cluster_in s run)) (drop i rows), so given run h)
 
   -- behind the last row all was added
-  audits-last : (a b : Option (List ℕ)) (said : List ℕ) (rows : List QueueRow) (i : ℕ) → length rows ≤ i
+  audits-last : (a b : SinkState) (said : List ℕ) (rows : List QueueRow) (i : ℕ) → length rows ≤ i
       → AuditsOn a b said rows i → (given : Giving D) (run : Run) → Holds given tells past faults s held run
       → HasPrefix a b (audits_of s run) said
   audits-last a b said rows i le so given run h =
       last_item (row_audit (cluster_in s run)) a b (audits_of s run) said rows i le (so given run h)
 
-  pub audits-whole : (a b d : Option (List ℕ)) (said : List ℕ) (rows : List QueueRow) (i : ℕ) → length rows ≤ i
-      → AuditsOn a b said rows i → Appends b d said → OfRuns (λ run. Appends a d (audits_of s run))
+  pub audits-whole : (a b d : SinkState) (said : List ℕ) (rows : List QueueRow) (i : ℕ) → length rows ≤ i
+      → AuditsOn a b said rows i → Writes b d said → OfRuns (λ run. Writes a d (audits_of s run))
   audits-whole a b d said rows i le so grown = λ given run h.
       whole a b d (audits_of s run) said (audits-last a b said rows i le so given run h) grown
 
-  pub audits-rest : (a b d : Option (List ℕ)) (said : List ℕ) (rows : List QueueRow) (i : ℕ) → length rows ≤ i
-      → AuditsOn a b said rows i → AppendsPrefix b d said → OfRuns (λ run. HasSomePrefix a d (audits_of s run))
+  pub audits-rest : (a b d : SinkState) (said : List ℕ) (rows : List QueueRow) (i : ℕ) → length rows ≤ i
+      → AuditsOn a b said rows i → WritesPart b d said → OfRuns (λ run. HasSomePrefix a d (audits_of s run))
   audits-rest a b d said rows i le so part = λ given run h.
       some_rest a b d (audits_of s run) said (audits-last a b said rows i le so given run h) part

@@ -1,37 +1,35 @@
 -- A run over nodes stops, and writes its closing line.
-use Rattle.std.proofs.Common.{◌≡◌, ◌≤◌, ℕ, Bool, List, [], Option, inr, subst}
-use Rattle.std.specs.Io.KnownBytes.{Appends}
-use Rattle.qq_base.specs.Causes.{Rose}
+use Rattle.std.proofs.Common.{◌≡◌, ◌≤◌, ℕ, Bool, List, [], inr, subst}
 use Rattle.qq_disk.specs.Disk.{Disk}
+use Rattle.qq_ports.specs.Streams.{SinkState, SourceState, Writes}
 use Rattle.qq_setup.specs.declared.setup.Setup.{Setup}
 use Rattle.qq_cluster_run.specs.declared.stop.Stop.{Stop}
 use Rattle.qq_cluster_run.specs.Endings.{Ending}
 use Rattle.qq_cluster_run.specs.Runs.{Closes, HasRun, HasStopped, ending_of}
-use Rattle.qq_cluster_run.proofs.Closings.{stop_closes, stopped_earlier}
+use Rattle.qq_cluster_run.proofs.Closings.{at, stop_closes, stopped_earlier}
 use Rattle.qq_broker.specs.Lives.{Giving}
 use Rattle.qq_broker.specs.Takers.{RunClaims, RunMeets}
 use Rattle.qq_taker.specs.Takers.{Takers}
 use Rattle.qq_broker.proofs.Meeting.{run-earlier}
 
--- `first` is the yard's count of faults when the run began, and `old` the sink's; at the stop they are `after` and `mid`
+-- `first` is the yard's count of faults when the run began, and `a` the sink's state; at the stop they are `after` and `b`
 pub run-stopped : {D : Type 0} (given : Giving D) (tells : D → Bool) (past : D → List Disk) (faults : D → ℕ)
-    (takers later : Takers) (s : Setup) (stop : Stop) (status : ℕ) (ending : Ending) (left rest a b c : Option (List ℕ)) (source : Type 0)
-    (first before after : ℕ) (old mid new : ℕ) → first ≤ before → old ≤ mid → mid ≤ new
-    → HasStopped stop s left rest a b source (Rose old mid) (RunMeets given tells past faults takers before after)
-    (RunClaims given tells past faults takers later) []
-    → Closes status ending (Rose mid new) (λ more. Appends b c more) → ending ≡ ending_of stop
-    → HasRun status s left rest a c source (Rose old new) (RunMeets given tells past faults takers first after)
+    (takers later : Takers) (s : Setup) (stop : Stop) (status : ℕ) (ending : Ending) (x y : SourceState)
+    (a b c : SinkState) (first before after : ℕ) → first ≤ before → a.faults ≤ b.faults → b.faults ≤ c.faults
+    → HasStopped stop s (at x a) (at y b) (RunMeets given tells past faults takers before after)
+    (RunClaims given tells past faults takers later) [] → Closes status ending b c (Writes b c)
+    → ending ≡ ending_of stop
+    → HasRun status s (at x a) (at y c) (RunMeets given tells past faults takers first after)
     (RunClaims given tells past faults takers later)
-run-stopped given tells past faults takers later s stop status ending left rest a b c source first before after old mid new earlier
-    le more so closes is =
+run-stopped given tells past faults takers later s stop status ending x y a b c first before after earlier le more so closes
+    is =
     let met = RunMeets given tells past faults takers first after in
     let claims = RunClaims given tells past faults takers later in
     let stopped = stopped_earlier (RunMeets given tells past faults takers before after) met claims
-    (run-earlier given tells past faults takers first before after earlier) stop s left rest a b source (Rose old mid) [] so in
+    (run-earlier given tells past faults takers first before after earlier) stop s (at x a) (at y b) [] so in
     inr (inr (record {
       stop = stop;
       closes = subst
-          (λ (e : Ending). Closes status e (Rose old new)
-          (λ more'. HasStopped stop s left rest a c source (Rose old new) met claims more')) is
-          (stop_closes stop status ending s left rest a b c source met claims old mid new le more stopped closes);
+          (λ (e : Ending). Closes status e a c (λ more'. HasStopped stop s (at x a) (at y c) met claims more')) is
+          (stop_closes stop status ending s x y a b c met claims le more stopped closes);
     }))

@@ -1,12 +1,12 @@
 -- So its status is neither that of a damage nor that of a loss.
 use Rattle.std.proofs.Common.{◌≡◌, ◌⊎◌, ◌+◌, ℕ, Bool, List, [], ◌∷◌, Result, Ok, Err, Option, Some, refl, sym, ap, subst, ◌∙◌, inl, inr, arith}
-use Rattle.std.specs.Prelude.{IsTrue}
-use Rattle.std.specs.Io.KnownBytes.{Appends}
+use Rattle.std.specs.Prelude.{IfSome, IsTrue}
 use Rattle.std.proofs.lemmas.Bool.{cases_lt}
 use Rattle.qq_base.proofs.Lists.{In-append_left}
 use Rattle.qq_defs.specs.Runnable.{IsRunnable}
 use Rattle.qq_disk.specs.declared.image.Image.{Image}
 use Rattle.qq_disk.specs.Disk.{Disk}
+use Rattle.qq_ports.specs.Streams.{Streams, Writes}
 use Rattle.qq_raft_protocol.specs.Facts.{In}
 use Rattle.qq_script_lines.specs.declared.fault.ScriptFault.{ScriptFault}
 use Rattle.qq_script_lines.specs.declared.fault.ScriptFault.TheVariants as faults_of
@@ -22,7 +22,7 @@ use Rattle.qq_cluster_run.specs.declared.stop.Stop.TheVariants as stops
 use Rattle.qq_cluster_run.specs.Endings.{Ending, limit_body, limit_lines, refusal}
 use Rattle.qq_cluster_run.specs.Inputs.{Input, inputs_of}
 use Rattle.qq_cluster_run.specs.Reading.{AskFor, Asks, Ends, read_input, says, says_by}
-use Rattle.qq_cluster_run.specs.Runs.{Closes, HasRun, HasStopped, MayNotOpen, ending_of}
+use Rattle.qq_cluster_run.specs.Runs.{Closes, EndsBy, HasRun, HasStopped, MayNotOpen, ending_of}
 use Rattle.qq_cluster_run.specs.Serving.{Behind, Claims, EndsRun, MayStop, StopsAt, run_behind, setup_behind}
 use Rattle.qq_cluster_run.specs.Troubles.{Trouble}
 use Rattle.qq_cluster_run.proofs.Says.{says_past, says_within}
@@ -144,7 +144,7 @@ module _ (law : Known) {D : Type 0} (given : Giving D) (tells : D → Bool) (pas
 
   -- ---- the whole run
 
-  module _ (bytes : List ℕ) (rest old new : Option (List ℕ)) (source sink : Type 0)
+  module _ (begun ended : Streams) (bytes : List ℕ) (known : begun.source.left ≡ Some bytes)
       (clean : (number : ℕ) (input : Input) (nodes : Nodes) (image : Image) → In input (inputs_of bytes)
       → says s number input ≡ Asks (lines.Crash nodes image) → HasNoJunk image) where
     clean-behind : (left : List Input) (b : Behind (RunHad given tells past faults first) s (inputs_of bytes) left)
@@ -155,9 +155,11 @@ module _ (law : Known) {D : Type 0} (given : Giving D) (tells : D → Bool) (pas
         (subst (In input) (sym b.is) (In-append_left input b.read left here)) is)
 
     stopped : (stop : Stop) (more : List ℕ)
-        → HasStopped stop s (Some bytes) rest old new source sink Met Claimed more
+        → HasStopped stop s begun ended Met Claimed more
         → IsHarm (ending_of stop).status → ⊥
-    stopped (stops.Ended ending) more (may, ends) harm =
+    stopped (stops.Ended ending) more (may, so) harm =
+        let ends : EndsBy Met Claimed ending s bytes begun ended more =
+        subst (λ (l : Option (List ℕ)). IfSome l (λ bs. EndsBy Met Claimed ending s bs begun ended more)) known so in
         not-ended (inputs_of bytes) ends.served.left ends.served.behind
         (clean-behind ends.served.left ends.served.behind) ends.next.input ending ends.next.ends harm
     stopped stops.ReadFault more so harm =
@@ -167,20 +169,20 @@ module _ (law : Known) {D : Type 0} (given : Giving D) (tells : D → Bool) (pas
     stopped stops.NoMemory more so harm =
         other-harm 12 12 refl (λ e. absurd (omega (arith, e))) (λ e. absurd (omega (arith, e))) harm
 
-    closes : (status : ℕ) (ending : Ending) (Stands : List ℕ → Type 0) → Closes status ending sink Stands
+    closes : (status : ℕ) (ending : Ending) (Stands : List ℕ → Type 0) → Closes status ending begun.sink ended.sink Stands
         → (Stands ending.text → IsHarm ending.status → ⊥) → IsHarm status → ⊥
     closes status ending Stands (inl (is, stands)) harmless harm = harmless stands (subst IsHarm is harm)
     closes status ending Stands (inr (is, rose, part)) harmless harm =
         other-harm status 6 is (λ e. absurd (omega (arith, e))) (λ e. absurd (omega (arith, e))) harm
 
     pub no-harm : (status : ℕ)
-        → HasRun status s (Some bytes) rest old new source sink Met Claimed → IsHarm status → ⊥
+        → HasRun status s begun ended Met Claimed → IsHarm status → ⊥
     no-harm status (inl so) harm =
-        closes status so.ending (λ more. Appends old new more) so.closes (λ stands. not-opened so.ending so.may) harm
+        closes status so.ending (Writes begun.sink ended.sink) so.closes (λ stands. not-opened so.ending so.may) harm
     no-harm status (inr (inl so)) harm =
         other-harm status 0 so.status_is (λ e. absurd (omega (arith, e))) (λ e. absurd (omega (arith, e))) harm
     no-harm status (inr (inr so)) harm =
         closes status (ending_of so.stop)
-        (λ more. HasStopped so.stop s (Some bytes) rest old new source sink Met Claimed more)
+        (λ more. HasStopped so.stop s begun ended Met Claimed more)
         so.closes
         (λ stands. stopped so.stop (ending_of so.stop).text stands) harm

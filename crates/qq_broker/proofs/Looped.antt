@@ -1,10 +1,10 @@
 -- Lines are served one after another: what comes of them once the last answers are written.
 use Rattle.std.proofs.Common.{◌≡◌, ◌≤◌, ◌+◌, ℕ, Bool, List, [], Option, Some, None, sym, subst}
 use Rattle.std.specs.Prelude.{IfSome}
-use Rattle.std.specs.Io.KnownBytes.{Appends, IsAtEnd}
+use Rattle.std.specs.Io.KnownBytes.{IsAtEnd}
 use Rattle.qq_disk.specs.Disk.{Disk}
-use Rattle.qq_ports.specs.Faults.{AppendsPrefix}
 use Rattle.qq_ports.specs.Lines.{BeginsTooLong, FirstLineLeads, LosesPiece, LosesSome, TakesLine, ahead, first_line}
+use Rattle.qq_ports.specs.Streams.{SinkState, Streams, Writes, WritesPart}
 use Rattle.qq_setup.specs.declared.setup.Setup.{Setup}
 use Rattle.qq_taker.specs.Takers.{Takers}
 use Rattle.qq_cluster.specs.Outcome.{Outcome}
@@ -26,9 +26,9 @@ use Rattle.qq_broker.proofs.Meeting.{run-earlier}
 abbrev pub LinesLead : Type 0
 LinesLead = (bytes : List ℕ) → FirstLineLeads bytes (first_line bytes)
 
--- `first` are the takers as the run began, `start` is what the source had then, and `a` what the sink had
+-- `first` are the takers as the run began, and `start` its streams
 module _ {D : Type 0} (given : Giving D) (tells : D → Bool) (past : D → List Disk) (faults : D → ℕ) (first : Takers)
-    (s : Setup) (start a : Option (List ℕ))
+    (s : Setup) (start : Streams)
   where
     abbrev Disks : Histories
     Disks = RunHad given tells past faults first
@@ -37,81 +37,84 @@ module _ {D : Type 0} (given : Giving D) (tells : D → Bool) (past : D → List
     All takers = RunClaims given tells past faults first takers
 
     -- so many lines were served, and what the last one printed isn't written yet
-    abbrev pub IsOn : Nodes D → Takers → (now b : Option (List ℕ)) (served : ℕ) (pending : List ℕ) → Type 0
+    abbrev pub IsOn : Nodes D → Takers → (now : Option (List ℕ)) (b : SinkState) (served : ℕ) (pending : List ℕ)
+        → Type 0
     IsOn held takers now b served pending =
-        LoopsOn (RunHad given tells past faults first) s (HoldsAll given tells past faults s first held takers) start now
-        a b served pending
+        LoopsOn (RunHad given tells past faults first) s (HoldsAll given tells past faults s first held takers)
+        start.source.left now start.sink b served pending
 
     -- the sink fails in that
-    pub lines-break : (held : Nodes D) (takers : Takers) (own : List ℕ) (left b c : Option (List ℕ)) (served : ℕ)
-        (pending piece : List ℕ) → IsOn held takers (ahead own left) b served pending → piece ≡ pending
-        → AppendsPrefix b c piece
-        → IfSome start (λ bytes. IsCut (RunClaims given tells past faults first takers) s bytes left a c [])
-    lines-break held takers own left b c served pending piece so is part =
-        waiting_breaks (All takers) s start own left so.run a b c pending so.waits (subst (AppendsPrefix b c) is part)
-        so.stands.seen
+    pub lines-break : (held : Nodes D) (takers : Takers) (own : List ℕ) (b : SinkState) (until : Streams) (served : ℕ)
+        (pending piece : List ℕ) → IsOn held takers (ahead own until.source.left) b served pending → piece ≡ pending
+        → WritesPart b until.sink piece
+        → IfSome start.source.left
+        (λ bytes. IsCut (RunClaims given tells past faults first takers) s bytes start until [])
+    lines-break held takers own b until served pending piece so is part =
+        waiting_breaks (All takers) s start.source.left own start until b so.run pending so.waits
+        (subst (WritesPart b until.sink) is part) so.stands.seen
 
-    module _ (held : Nodes D) (takers : Takers) (now b c : Option (List ℕ)) (served : ℕ) (pending piece : List ℕ)
-        (so : IsOn held takers now b served pending) (is : piece ≡ pending) (grown : Appends b c piece) where
-      goes : Going (RunHad given tells past faults first) s start now so.run a c
-      goes = loops_written Disks s (HoldsAll given tells past faults s first held takers) start now a b c served pending
-          piece so is grown
+    module _ (held : Nodes D) (takers : Takers) (now : Option (List ℕ)) (b : SinkState) (until : Streams) (served : ℕ)
+        (pending piece : List ℕ) (so : IsOn held takers now b served pending) (is : piece ≡ pending)
+        (grown : Writes b until.sink piece) where
+      goes : Going (RunHad given tells past faults first) s start.source.left now so.run start.sink until.sink
+      goes = loops_written Disks s (HoldsAll given tells past faults s first held takers) start.source.left now start.sink
+          b until.sink served pending piece so is grown
 
       -- no line is left
-      pub lines-end : (own : List ℕ) (left : Option (List ℕ)) → IsAtEnd now → IsAtEnd (ahead own left)
+      pub lines-end : (own : List ℕ) → IsAtEnd now → IsAtEnd (ahead own until.source.left)
           → IsServedToEnd (RunHad given tells past faults first) s
-          (HoldsAll given tells past faults s first held takers) start left a c
-      lines-end own left end stays =
-          loops_end Disks s (HoldsAll given tells past faults s first held takers) start now a c left so.run own so.stands
+          (HoldsAll given tells past faults s first held takers) start until
+      lines-end own end stays =
+          loops_end Disks s (HoldsAll given tells past faults s first held takers) now start until so.run own so.stands
           goes end stays
 
       -- the source fails
-      pub lines-fail : (rest : Option (List ℕ)) → LosesPiece now rest
-          → IfSome start (λ bytes. HasAnswers (RunClaims given tells past faults first takers) s bytes rest a c [])
-      lines-fail rest lost = going_reads (All takers) s start now rest so.run a c goes lost so.stands.seen
+      pub lines-fail : LosesPiece now until.source.left
+          → IfSome start.source.left
+          (λ bytes. HasAnswers (RunClaims given tells past faults first takers) s bytes start until [])
+      lines-fail lost = going_reads (All takers) s start.source.left now start until so.run goes lost so.stands.seen
 
       -- there is no memory
-      pub lines-starve : (rest : Option (List ℕ)) → LosesSome now rest
-          → IfSome start (λ bytes. BreaksOff (RunHad given tells past faults first) s bytes rest a c [])
-      lines-starve rest lost = going_stops Disks s start now rest so.run a c goes lost
+      pub lines-starve : LosesSome now until.source.left
+          → IfSome start.source.left (λ bytes. BreaksOff (RunHad given tells past faults first) s bytes start until [])
+      lines-starve lost = going_stops Disks s start.source.left now start until so.run goes lost
 
       -- the next line is too long
-      pub lines-pass : (before after : ℕ) (rest : Option (List ℕ)) (ending : Ending) → LinesLead → BeginsTooLong now
-          → LosesSome now rest → says s served None ≡ Ends ending
+      pub lines-pass : (before after : ℕ) (ending : Ending) → LinesLead → BeginsTooLong now
+          → LosesSome now until.source.left → says s served None ≡ Ends ending
           → MayEnd (RunMeets given tells past faults first before after) (RunClaims given tells past faults first takers)
           s ending
-          × IfSome start
+          × IfSome start.source.left
           (λ bytes. EndsBy (RunMeets given tells past faults first before after)
-          (RunClaims given tells past faults first takers) ending s bytes rest a c [])
-      lines-pass before after rest ending law long lost ends =
-          going_too_long (RunMeets given tells past faults first before after) (All takers) s start now rest ending
-          so.run a c law goes long lost (subst (λ (n : ℕ). says s n None ≡ Ends ending) (sym so.lines) ends)
+          (RunClaims given tells past faults first takers) ending s bytes start until [])
+      lines-pass before after ending law long lost ends =
+          going_too_long (RunMeets given tells past faults first before after) (All takers) s start.source.left now start
+          until ending so.run law goes long lost (subst (λ (n : ℕ). says s n None ≡ Ends ending) (sym so.lines) ends)
           so.stands.seen
 
       -- it ends the run, and these are the takers then
-      pub lines-stop : (source sink : Type 0) (earliest before after : ℕ) (stop : Stop) (ask : AskStop)
-          (next rest : Option (List ℕ)) (line : List ℕ) (later : Takers) → earliest ≤ before → LinesLead
-          → TakesLine now next line → LosesSome now rest
+      pub lines-stop : (earliest before after : ℕ) (stop : Stop) (ask : AskStop) (next : Option (List ℕ))
+          (line : List ℕ) (later : Takers) → earliest ≤ before → LinesLead → TakesLine now next line
+          → LosesSome now until.source.left
           → HasAnswerCause (RunMeets given tells past faults first before after) s so.run (Some line) ask
           → IsSoAt (RunClaims given tells past faults first later) s so.run ask → stop ≡ stop_of ask
-          → HasStopped stop s start rest a c source sink (RunMeets given tells past faults first earliest after)
+          → HasStopped stop s start until (RunMeets given tells past faults first earliest after)
           (RunClaims given tells past faults first later) []
-      lines-stop source sink earliest before after stop ask next rest line later le law takes lost cause is_so is =
+      lines-stop earliest before after stop ask next line later le law takes lost cause is_so is =
           subst
-          (λ (x : Stop). HasStopped x s start rest a c source sink
-          (RunMeets given tells past faults first earliest after) (RunClaims given tells past faults first later) [])
-          (sym is)
+          (λ (x : Stop). HasStopped x s start until (RunMeets given tells past faults first earliest after)
+          (RunClaims given tells past faults first later) []) (sym is)
           (answer_stops (RunMeets given tells past faults first before after)
-          (RunMeets given tells past faults first earliest after) (All later) source sink
-          (run-earlier given tells past faults first earliest before after le) ask s start now next rest so.run line a c
-          law goes takes lost cause is_so)
+          (RunMeets given tells past faults first earliest after) (All later)
+          (run-earlier given tells past faults first earliest before after le) ask s start until now next so.run line law
+          goes takes lost cause is_so)
 
       -- it is served
       pub lines-go-on : (new : Nodes D) (later : Takers) (next : Option (List ℕ)) (line : List ℕ)
           (before after : Outcome) → LinesLead → TakesLine now next line → before.text ≡ []
           → Answers (RunHad given tells past faults first) s so.run (Some line)
           (HoldsAll given tells past faults s first new later) before after
-          → IsOn new later next c (served + 1) after.text
+          → IsOn new later next until.sink (served + 1) after.text
       lines-go-on new later next line before after law takes none answers =
-          loops_line Disks s (HoldsAll given tells past faults s first new later) start now next a c served so.run line
-          before after law so.lines goes takes none answers
+          loops_line Disks s (HoldsAll given tells past faults s first new later) start.source.left now next start.sink
+          until.sink served so.run line before after law so.lines goes takes none answers

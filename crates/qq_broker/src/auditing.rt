@@ -1,8 +1,8 @@
 //! The audits of a run's queues.
 ghost use Rattle.std.specs.Prelude.{◌≡◌, ◌≤◌, ◌++◌, ℕ, IfErr, OnErr, OnOk};
-ghost use Rattle.std.specs.Io.KnownBytes.{Appends};
-ghost use Rattle.qq_base.specs.Causes.{Rose, HasCause};
+ghost use Rattle.qq_base.specs.Causes.{HasCause};
 ghost use Rattle.qq_ports.specs.Faults.{IsCaused};
+ghost use Rattle.qq_ports.specs.Streams.{Writes, sink_state};
 ghost use Rattle.qq_cluster.specs.Texts.{audits_text};
 ghost use Rattle.qq_cluster_run.specs.Pieces.{HasPrefix, HasPrintCause, HasSomePrefix};
 ghost use Rattle.qq_cluster_run.specs.Serving.{Run, cluster_in, setup_in};
@@ -21,10 +21,10 @@ const PIECE: usize = 32_768;
 
 // Writes the text where it has become long, and empties it.
 fn drain<O: Sink>(text: &mut Vec<u8>, output: &mut O) -> Result<(), Failed>
-    ensures ok { OnOk result (HasPrefix (O.written output.old) (O.written output.new)
-        text.old.items text.new.items) }
-    ensures err { OnErr result
-        (HasSomePrefix (O.written output.old) (O.written output.new) text.old.items) }
+    ensures ok { OnOk result (HasPrefix (sink_state O.written O.faults output.old)
+        (sink_state O.written O.faults output.new) text.old.items text.new.items) }
+    ensures err { OnErr result (HasSomePrefix (sink_state O.written O.faults output.old)
+        (sink_state O.written O.faults output.new) text.old.items) }
     ensures cause { HasCause IsCaused (O.faults output.old) (O.faults output.new) result }
 {
     if text.len() < PIECE {
@@ -52,14 +52,17 @@ pub fn write_audits<D: NodeDisk, O: Sink>(
         × Holds given D.tells D.past D.faults setup.now nodes.now run) }
     ensures ok { (given : Giving D) (run : Run) →
         Holds given D.tells D.past D.faults setup.now nodes.now run →
-        OnOk result (Appends (O.written output.old) (O.written output.new)
+        OnOk result (Writes (sink_state O.written O.faults output.old)
+        (sink_state O.written O.faults output.new)
         (audits_text (setup_in setup.now run) (cluster_in setup.now run))) }
     ensures err { (given : Giving D) (run : Run) →
         Holds given D.tells D.past D.faults setup.now nodes.now run →
-        OnErr result (HasSomePrefix (O.written output.old) (O.written output.new)
+        OnErr result (HasSomePrefix (sink_state O.written O.faults output.old)
+        (sink_state O.written O.faults output.new)
         (audits_text (setup_in setup.now run) (cluster_in setup.now run))) }
     ensures cause { IfErr result (λ fault.
-        HasPrintCause fault (Rose (O.faults output.old) (O.faults output.new))) }
+        HasPrintCause fault (sink_state O.written O.faults output.old)
+        (sink_state O.written O.faults output.new)) }
     ensures later { O.faults output.old ≤ O.faults output.new }
 {
     text.clear();

@@ -11,6 +11,7 @@ ghost use Rattle.qq_disk.specs.Moments.{Adds};
 ghost use Rattle.qq_log.specs.Stable.{Stable, new_state, stable};
 ghost use Rattle.qq_lots.specs.Left.{state_in};
 ghost use Rattle.qq_lots.specs.Lots.{ids_of};
+ghost use Rattle.qq_ports.specs.Streams.{Streams};
 ghost use Rattle.qq_raft_model.specs.Group.{may_restart};
 ghost use Rattle.qq_raft_protocol.specs.Facts.{In};
 ghost use Rattle.qq_recover.specs.Reading.{lanes_read, shown};
@@ -317,17 +318,15 @@ pub fn without_junk_nothing_is_damaged_or_lost<D: NodeDisk>()
 /// A law: a run over new disks that show their contents ends with neither status 8 nor 9, if no line of its input
 /// leaves an image with junk.
 pub fn a_run_without_junk_is_neither_damaged_nor_lost<D: NodeDisk>()
-    ensures { (given : Giving D) (first last : Takers) (status : ℕ) (s : ScriptSetup) (bytes : List ℕ)
-        (rest old new : Option (List ℕ))
-        (source_before source_after sink_before sink_after before after : ℕ) →
-        IsRunnable (state_of s) →
+    ensures { (given : Giving D) (first last : Takers) (status : ℕ) (s : ScriptSetup)
+        (begun ended : Streams) (bytes : List ℕ) (before after : ℕ) →
+        begun.source.left ≡ Some bytes → IsRunnable (state_of s) →
         ((k : ℕ) (disk : D) → IsGiven given D.tells D.past k disk → IsTrue (D.tells disk) →
         D.past disk ≡ (λ file. None) ∷ []) →
         ((disk : D) → IsTrue (D.tells disk)) →
         ((lines : ℕ) (input : Input) (nodes : Nodes) (image : Image) → In input (inputs_of bytes) →
         says s lines input ≡ Asks (Crash nodes image) → HasNoJunk image) →
-        HasRun status s (Some bytes) rest old new (Rose source_before source_after)
-        (Rose sink_before sink_after) (RunMeets given D.tells D.past D.faults first before after)
+        HasRun status s begun ended (RunMeets given D.tells D.past D.faults first before after)
         (RunClaims given D.tells D.past D.faults first last) → (status ≡ 8) ⊎ (status ≡ 9) → ⊥ }
 {
     clusters_begin_with_new_logs();

@@ -1,6 +1,7 @@
 //! The log of a node is listed.
-ghost use Rattle.std.specs.Prelude.{◌≡◌, ◌≤◌, ℕ, List, Option, Some, IsTrue};
+ghost use Rattle.std.specs.Prelude.{◌≡◌, ◌≤◌, List, Some, IsTrue};
 ghost use Rattle.qq_base.specs.Causes.{Rose};
+ghost use Rattle.qq_ports.specs.Streams.{SourceState, beside, sink_state};
 ghost use Rattle.qq_dump.specs.Files.{AreShown, LogFile};
 ghost use Rattle.qq_broker.specs.Dumping.{DumpEnds, HasDumped};
 ghost use Rattle.qq_broker.specs.Lives.{under};
@@ -18,9 +19,8 @@ use std::alloc::Global;
 // Writes the text of the log files that a disk shows, and says with which status the run ends.
 fn dump_disk<D: NodeDisk, O: Sink>(alloc: Global, disk: &mut D, output: &mut O) -> u8
     ensures ends { (files : List LogFile) × AreShown D.tells D.past disk.old files
-        × HasDumped result (Rose (D.faults disk.old) (D.faults disk.new))
-        (Rose (O.faults output.old) (O.faults output.new)) files
-        (O.written output.old) (O.written output.new) }
+        × HasDumped result (Rose (D.faults disk.old) (D.faults disk.new)) files
+        (sink_state O.written O.faults output.old) (sink_state O.written O.faults output.new) }
     ensures same { IsTrue (D.tells disk.old) → D.past disk.new ≡ D.past disk.old }
     ensures told { D.tells disk.new ≡ D.tells disk.old }
     ensures later { O.faults output.old ≤ O.faults output.new }
@@ -44,10 +44,10 @@ pub fn dump_node<Y: Yard, O: Sink>(
     yard: &mut Y,
     output: &mut O,
 ) -> u8
-    ensures ends { (left : Option (List ℕ)) →
+    ensures ends { (source : SourceState) →
         DumpEnds (under Y.is_given (Some root.now)) Y.Disk.tells Y.Disk.past Y.Disk.faults result
-        node left left (O.written output.old) (O.written output.new)
-        (Rose (O.faults output.old) (O.faults output.new)) (Y.faults yard.old) (Y.faults yard.new) }
+        node (beside source O.written O.faults output.old)
+        (beside source O.written O.faults output.new) (Y.faults yard.old) (Y.faults yard.new) }
     ensures sink_later { O.faults output.old ≤ O.faults output.new }
     ensures yard_later { Y.faults yard.old ≤ Y.faults yard.new }
 {

@@ -1,10 +1,12 @@
 //! Laws of runs over nodes: the functions do nothing, and their contracts are the laws.
-ghost use Rattle.std.specs.Prelude.{◌≡◌, ◌⊎◌, ◌++◌, ℕ, Bool, IsTrue, List, None, Option, Some};
+ghost use Rattle.std.specs.Prelude.{◌≡◌, ◌⊎◌, ℕ, Bool, IsTrue, List, None, Option};
+ghost use Rattle.std.specs.Io.KnownBytes.{Appends, Keeps};
 ghost use Rattle.qq_base.specs.Causes.{Rose};
 ghost use Rattle.qq_base.specs.declared.ids.NodeId.{NodeId};
 ghost use Rattle.qq_defs.specs.Runnable.{IsRunnable};
 ghost use Rattle.qq_disk.specs.Disk.{now};
 ghost use Rattle.qq_dump.specs.Files.{dump_text, log_files};
+ghost use Rattle.qq_ports.specs.Streams.{Streams};
 ghost use Rattle.qq_setup.specs.Setup.{state_of};
 ghost use Rattle.qq_setup.specs.declared.setup.Setup.{Setup};
 ghost use Rattle.qq_cluster_run.specs.Inputs.{Input};
@@ -30,28 +32,25 @@ pub fn a_run_without_a_root_begins_with_new_logs<D: NodeDisk>()
     an_empty_disk_keeps_the_promise();
 }
 
-/// A law: what the status of a dump tells, where source and sink tell their bytes.
+/// A law: what the status of a dump tells.
 ///
 /// - `statuses`: it is 0, 6, 7 or 12.
 /// - `done`: with 0 nothing was read, and the text of the log files was written that stand on the disk which the yard
 ///   gave for the node under this root, where that shows its contents.
 /// - `failed`: with 7 the yard has failed, or such a disk.
 pub fn a_dump_tells_what_was_done<D: NodeDisk>()
-    ensures statuses { (given : Giving D) (status : ℕ) (node : NodeId) (bytes rest old new : List ℕ)
-        (sink_before sink_after before after : ℕ) →
-        DumpEnds given D.tells D.past D.faults status node (Some bytes) (Some rest) (Some old)
-        (Some new) (Rose sink_before sink_after) before after →
+    ensures statuses { (given : Giving D) (status : ℕ) (node : NodeId) (before later : Streams)
+        (yard yard' : ℕ) →
+        DumpEnds given D.tells D.past D.faults status node before later yard yard' →
         (status ≡ 0) ⊎ ((status ≡ 6) ⊎ ((status ≡ 7) ⊎ (status ≡ 12))) }
-    ensures done { (given : Giving D) (node : NodeId) (bytes rest old new : List ℕ)
-        (sink_before sink_after before after : ℕ) →
-        DumpEnds given D.tells D.past D.faults 0 node (Some bytes) (Some rest) (Some old) (Some new)
-        (Rose sink_before sink_after) before after →
-        (disk : D) × IsGiven given D.tells D.past node.0 disk × (rest ≡ bytes)
-        × (IsTrue (D.tells disk) → new ≡ old ++ dump_text (log_files (now (D.past disk)))) }
-    ensures failed { (given : Giving D) (node : NodeId) (bytes rest old new : List ℕ)
-        (sink_before sink_after before after : ℕ) →
-        DumpEnds given D.tells D.past D.faults 7 node (Some bytes) (Some rest) (Some old) (Some new)
-        (Rose sink_before sink_after) before after →
-        Rose before after ⊎ ((disk : D) × IsGiven given D.tells D.past node.0 disk
+    ensures done { (given : Giving D) (node : NodeId) (before later : Streams) (yard yard' : ℕ) →
+        DumpEnds given D.tells D.past D.faults 0 node before later yard yard' →
+        (disk : D) × IsGiven given D.tells D.past node.0 disk
+        × Keeps before.source.left later.source.left
+        × (IsTrue (D.tells disk) → Appends before.sink.written later.sink.written
+        (dump_text (log_files (now (D.past disk))))) }
+    ensures failed { (given : Giving D) (node : NodeId) (before later : Streams) (yard yard' : ℕ) →
+        DumpEnds given D.tells D.past D.faults 7 node before later yard yard' →
+        Rose yard yard' ⊎ ((disk : D) × IsGiven given D.tells D.past node.0 disk
         × ((last : D) × Rose (D.faults disk) (D.faults last))) }
 {}

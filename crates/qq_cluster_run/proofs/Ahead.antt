@@ -1,12 +1,12 @@
 -- A run over what is ahead of a reader, and how it ends.
 use Rattle.std.proofs.Common.{◌≡◌, ℕ, List, [], ◌∷◌, ◌++◌, take, drop, Option, Some, None, inl, inr, refl, sym, ap, subst, ◌∙◌, append_assoc, append-nil, take-append-drop}
 use Rattle.std.specs.Prelude.{IfSome}
-use Rattle.std.specs.Io.KnownBytes.{Appends, Consumes, IsAtEnd, prepend_known}
+use Rattle.std.specs.Io.KnownBytes.{Consumes, IsAtEnd, prepend_known}
 use Rattle.std.proofs.KnownBytes.{Appends-trans, Appends-nil}
 use Rattle.std.proofs.lemmas.Option.{IfSome_then}
 use Rattle.qq_setup.specs.declared.setup.Setup.{Setup}
-use Rattle.qq_ports.specs.Faults.{AppendsPrefix}
 use Rattle.qq_ports.specs.Lines.{first_line, TakesLine, BeginsTooLong, LosesSome, LosesPiece, FirstLineLeads}
+use Rattle.qq_ports.specs.Streams.{SinkState, Streams, Writes, WritesPart}
 use Rattle.qq_cluster.specs.Outcome.{Outcome}
 use Rattle.qq_cluster_run.specs.Endings.{Ending}
 use Rattle.qq_cluster_run.specs.Inputs.{Input, inputs_of, EndsWith}
@@ -19,11 +19,13 @@ use Rattle.qq_cluster_run.specs.Troubles.{Trouble}
 use Rattle.qq_cluster_run.proofs.InputLines.{takes_input, takes_ends, BeginsLong, long_begins}
 use Rattle.qq_cluster_run.proofs.Going.{more}
 
-without_nil : (a b : Option (List ℕ)) (xs : List ℕ) → Appends a b (xs ++ []) → Appends a b xs
-without_nil a b xs grown = subst (Appends a b) (append-nil xs) grown
+with_nil : (a b : SinkState) (xs : List ℕ) → Writes a b xs → Writes a b (xs ++ [])
+with_nil a b xs grown = subst (Writes a b) (sym (append-nil xs)) grown
 
-with_nil : (a b : Option (List ℕ)) (xs : List ℕ) → Appends a b xs → Appends a b (xs ++ [])
-with_nil a b xs grown = subst (Appends a b) (sym (append-nil xs)) grown
+-- one text and then another
+pub both : (a b c : SinkState) (first second : List ℕ) → Writes a b first → Writes b c second
+    → Writes a c (first ++ second)
+both a b c first second before later = Appends-trans a.written b.written c.written first second before later
 
 -- ---- the opening
 
@@ -140,37 +142,37 @@ served had s bytes now rest read left b is ends parts = record {
 }
 
 -- the run so far over the bytes that a source had, which end with those that are ahead
-pub record GoesOver (had : Histories) (s : Setup) (bytes rest : List ℕ) (run : Run) (a b : Option (List ℕ)) : Type 0
+pub record GoesOver (had : Histories) (s : Setup) (bytes rest : List ℕ) (run : Run) (a b : SinkState) : Type 0
   where
     pub goes : Goes had s (inputs_of bytes) run (inputs_of rest) a b
     pub ends : EndsWith bytes rest
 
-abbrev pub Going : Histories → Setup → (start now : Option (List ℕ)) → Run → (a b : Option (List ℕ)) → Type 0
+abbrev pub Going : Histories → Setup → (start now : Option (List ℕ)) → Run → (a b : SinkState) → Type 0
 Going had s None now run a b = IsLed had s run
 Going had s (Some bytes) None run a b = ⊥
 Going had s (Some bytes) (Some rest) run a b = GoesOver had s bytes rest run a b
 
 -- the same while what was printed last isn't written yet
 pub record Waits (had : Histories) (s : Setup) (all : List Input) (run : Run) (left : List Input)
-    (a b : Option (List ℕ)) (pending : List ℕ) : Type 0 where
+    (a b : SinkState) (pending : List ℕ) : Type 0 where
   pub behind : Behind had s all left
   pub run_is : run ≡ run_behind behind
   pub first : List ℕ
   pub parts : text_behind behind ≡ first ++ pending
-  pub written : Appends a b first
+  pub written : Writes a b first
 
-pub record WaitsOver (had : Histories) (s : Setup) (bytes rest : List ℕ) (run : Run) (a b : Option (List ℕ))
+pub record WaitsOver (had : Histories) (s : Setup) (bytes rest : List ℕ) (run : Run) (a b : SinkState)
     (pending : List ℕ) : Type 0 where
   pub waits : Waits had s (inputs_of bytes) run (inputs_of rest) a b pending
   pub ends : EndsWith bytes rest
 
 abbrev pub Waiting :
-    Histories → Setup → (start now : Option (List ℕ)) → Run → (a b : Option (List ℕ)) → List ℕ → Type 0
+    Histories → Setup → (start now : Option (List ℕ)) → Run → (a b : SinkState) → List ℕ → Type 0
 Waiting had s None now run a b pending = IsLed had s run
 Waiting had s (Some bytes) None run a b pending = ⊥
 Waiting had s (Some bytes) (Some rest) run a b pending = WaitsOver had s bytes rest run a b pending
 
-pub waiting_start : (had : Histories) (s : Setup) (left : Option (List ℕ)) (Stands : Run → Type 0) (a : Option (List ℕ))
+pub waiting_start : (had : Histories) (s : Setup) (left : Option (List ℕ)) (Stands : Run → Type 0) (a : SinkState)
     (before later : Outcome) → before.text ≡ [] → (o : HasOpened had s Stands before later)
     → Waiting had s left (prepend_known [] left) (first_run o) a a later.text
 unfolding opened
@@ -182,27 +184,27 @@ waiting_start had s (Some bytes) Stands a before later none o = record {
     run_is = refl;
     first = [];
     parts = sym (o.says ∙ ap (λ (l : List ℕ). l ++ all_text (cluster_over s o.logs) o.events) none);
-    written = Appends-nil a;
+    written = Appends-nil a.written;
   };
   ends = ([], refl);
 }
 
-pub waiting_written : (had : Histories) (s : Setup) (start now : Option (List ℕ)) (run : Run) (a b c : Option (List ℕ))
-    (pending : List ℕ) → Waiting had s start now run a b pending → Appends b c pending → Going had s start now run a c
+pub waiting_written : (had : Histories) (s : Setup) (start now : Option (List ℕ)) (run : Run) (a b c : SinkState)
+    (pending : List ℕ) → Waiting had s start now run a b pending → Writes b c pending → Going had s start now run a c
 waiting_written had s None now run a b c pending so grown = so
 waiting_written had s (Some bytes) None run a b c pending so grown = absurd so
 waiting_written had s (Some bytes) (Some rest) run a b c pending so grown = record {
   goes = record {
     behind = so.waits.behind;
     run_is = so.waits.run_is;
-    written = subst (Appends a c) (sym so.waits.parts)
-        (Appends-trans a b c so.waits.first pending so.waits.written grown);
+    written = subst (Writes a c) (sym so.waits.parts)
+        (both a b c so.waits.first pending so.waits.written grown);
   };
   ends = so.ends;
 }
 
 waits_line : (had : Histories) (s : Setup) (all : List Input) (run next : Run) (input : Input) (left : List Input)
-    (said : List ℕ) (a b : Option (List ℕ)) → Goes had s all run (input ∷ left) a b → Serves had s run input said next
+    (said : List ℕ) (a b : SinkState) → Goes had s all run (input ∷ left) a b → Serves had s run input said next
     → Waits had s all next left a b said
 waits_line had s all run next input left said a b so serves =
     let m = more had s all run next input left said so.behind so.run_is serves in
@@ -215,7 +217,7 @@ waits_line had s all run next input left said a b so serves =
     }
 
 pub waiting_line : (had : Histories) (s : Setup) (start now next : Option (List ℕ)) (run run' : Run)
-    (line said : List ℕ) (a b : Option (List ℕ))
+    (line said : List ℕ) (a b : SinkState)
     → ((bytes : List ℕ) → FirstLineLeads bytes (first_line bytes)) → Going had s start now run a b
     → TakesLine now next line → Serves had s run (Some line) said run' → Waiting had s start next run' a b said
 waiting_line had s None now next run run' line said a b law so takes serves =
@@ -232,13 +234,13 @@ waiting_line had s (Some bytes) (Some rest) (Some ahead) run run' line said a b 
 -- ---- how it ends
 
 -- a line ends the run
-ends_at : (met : Trouble → Type 0) (claims : Claims) (s : Setup) (bytes now : List ℕ) (rest : Option (List ℕ))
-    (read : List ℕ) (run : Run) (input : Input) (ahead : List Input) (ending : Ending) (a b : Option (List ℕ))
-    → GoesOver claims.during s bytes now run a b → IsParted now rest read → inputs_of now ≡ input ∷ ahead
-    → EndsRun met s run input ending → (IsRefusal ending → IsSoOf claims s run)
-    → EndsBy met claims ending s bytes rest a b []
-ends_at met claims s bytes now rest read run input ahead ending a b so parts is ends is_so = record {
-  served = served claims.during s bytes now rest read (inputs_of now) so.goes.behind refl so.ends parts;
+ends_at : (met : Trouble → Type 0) (claims : Claims) (s : Setup) (bytes now : List ℕ) (before later : Streams)
+    (read : List ℕ) (run : Run) (input : Input) (ahead : List Input) (ending : Ending)
+    → GoesOver claims.during s bytes now run before.sink later.sink → IsParted now later.source.left read
+    → inputs_of now ≡ input ∷ ahead → EndsRun met s run input ending → (IsRefusal ending → IsSoOf claims s run)
+    → EndsBy met claims ending s bytes before later []
+ends_at met claims s bytes now before later read run input ahead ending so parts is ends is_so = record {
+  served = served claims.during s bytes now later.source.left read (inputs_of now) so.goes.behind refl so.ends parts;
   next = record {
     input = input;
     more = ahead;
@@ -246,71 +248,76 @@ ends_at met claims s bytes now rest read run input ahead ending a b so parts is 
     ends = subst (λ (r : Run). EndsRun met s r input ending) so.goes.run_is ends;
   };
   finally = λ refused. subst (IsSoOf claims s) so.goes.run_is (is_so refused);
-  written = with_nil a b (text_behind so.goes.behind) so.goes.written;
+  written = with_nil before.sink later.sink (text_behind so.goes.behind) so.goes.written;
 }
 
-pub going_ends : (met : Trouble → Type 0) (claims : Claims) (s : Setup) (start now next rest : Option (List ℕ))
-    (ending : Ending) (run : Run) (line : List ℕ) (a b : Option (List ℕ))
-    → ((bytes : List ℕ) → FirstLineLeads bytes (first_line bytes)) → Going claims.during s start now run a b
-    → TakesLine now next line → LosesSome now rest → EndsRun met s run (Some line) ending
-    → (IsRefusal ending → IsSoOf claims s run)
-    → MayEnd met claims s ending × IfSome start (λ bytes. EndsBy met claims ending s bytes rest a b [])
-going_ends met claims s None now next rest ending run line a b law so takes lost ends is_so =
+-- `start` is what the source had at first
+pub going_ends : (met : Trouble → Type 0) (claims : Claims) (s : Setup) (start now next : Option (List ℕ))
+    (before later : Streams) (ending : Ending) (run : Run) (line : List ℕ)
+    → ((bytes : List ℕ) → FirstLineLeads bytes (first_line bytes))
+    → Going claims.during s start now run before.sink later.sink → TakesLine now next line
+    → LosesSome now later.source.left → EndsRun met s run (Some line) ending → (IsRefusal ending → IsSoOf claims s run)
+    → MayEnd met claims s ending × IfSome start (λ bytes. EndsBy met claims ending s bytes before later [])
+going_ends met claims s None now next before later ending run line law so takes lost ends is_so =
     (may-end met claims s run (Some line) ending so ends is_so, tt)
-going_ends met claims s (Some bytes) None next rest ending run line a b law so takes lost ends is_so = absurd so
-going_ends met claims s (Some bytes) (Some xs) None rest ending run line a b law so takes lost ends is_so = absurd takes
-going_ends met claims s (Some bytes) (Some xs) (Some ahead) rest ending run line a b law so takes lost ends is_so = (
+going_ends met claims s (Some bytes) None next before later ending run line law so takes lost ends is_so = absurd so
+going_ends met claims s (Some bytes) (Some xs) None before later ending run line law so takes lost ends is_so =
+    absurd takes
+going_ends met claims s (Some bytes) (Some xs) (Some ahead) before later ending run line law so takes lost ends is_so = (
   may-end met claims s run (Some line) ending
       (led claims.during s (inputs_of bytes) (inputs_of xs) run so.goes.behind so.goes.run_is) ends is_so,
-  ends_at met claims s bytes xs rest lost.0 run (Some line) (inputs_of ahead) ending a b so
-      (parted xs rest lost.0 lost.1) (takes_input xs line ahead law takes) ends is_so,
+  ends_at met claims s bytes xs before later lost.0 run (Some line) (inputs_of ahead) ending so
+      (parted xs later.source.left lost.0 lost.1) (takes_input xs line ahead law takes) ends is_so,
 )
 
 -- the next line is too long
-pub going_too_long : (met : Trouble → Type 0) (claims : Claims) (s : Setup) (start now rest : Option (List ℕ))
-    (ending : Ending) (run : Run) (a b : Option (List ℕ))
-    → ((bytes : List ℕ) → FirstLineLeads bytes (first_line bytes)) → Going claims.during s start now run a b
-    → BeginsTooLong now → LosesSome now rest → says s run.lines None ≡ Ends ending → IsSoOf claims s run
-    → MayEnd met claims s ending × IfSome start (λ bytes. EndsBy met claims ending s bytes rest a b [])
-going_too_long met claims s None now rest ending run a b law so long lost ends is_so =
+pub going_too_long : (met : Trouble → Type 0) (claims : Claims) (s : Setup) (start now : Option (List ℕ))
+    (before later : Streams) (ending : Ending) (run : Run)
+    → ((bytes : List ℕ) → FirstLineLeads bytes (first_line bytes))
+    → Going claims.during s start now run before.sink later.sink → BeginsTooLong now → LosesSome now later.source.left
+    → says s run.lines None ≡ Ends ending → IsSoOf claims s run
+    → MayEnd met claims s ending × IfSome start (λ bytes. EndsBy met claims ending s bytes before later [])
+going_too_long met claims s None now before later ending run law so long lost ends is_so =
     (may-end met claims s run None ending so (inl ends) (λ refused. is_so), tt)
-going_too_long met claims s (Some bytes) None rest ending run a b law so long lost ends is_so = absurd so
-going_too_long met claims s (Some bytes) (Some xs) rest ending run a b law so long lost ends is_so =
+going_too_long met claims s (Some bytes) None before later ending run law so long lost ends is_so = absurd so
+going_too_long met claims s (Some bytes) (Some xs) before later ending run law so long lost ends is_so =
     let begins : BeginsLong xs = long_begins xs (law xs) long in (
       may-end met claims s run None ending
           (led claims.during s (inputs_of bytes) (inputs_of xs) run so.goes.behind so.goes.run_is) (inl ends)
           (λ refused. is_so),
-      ends_at met claims s bytes xs rest lost.0 run None begins.left ending a b so (parted xs rest lost.0 lost.1)
-          begins.is (inl ends) (λ refused. is_so),
+      ends_at met claims s bytes xs before later lost.0 run None begins.left ending so
+          (parted xs later.source.left lost.0 lost.1) begins.is (inl ends) (λ refused. is_so),
     )
 
 -- the source fails
-pub going_reads : (claims : Claims) (s : Setup) (start now rest : Option (List ℕ)) (run : Run) (a b : Option (List ℕ))
-    → Going claims.during s start now run a b → LosesPiece now rest → IsSoOf claims s run
-    → IfSome start (λ bytes. HasAnswers claims s bytes rest a b [])
-going_reads claims s None now rest run a b so lost is_so = tt
-going_reads claims s (Some bytes) None rest run a b so lost is_so = absurd so
-going_reads claims s (Some bytes) (Some xs) rest run a b so lost is_so = record {
-  served = served claims.during s bytes xs rest lost.0 (inputs_of xs) so.goes.behind refl so.ends
-      (parted xs rest lost.0 lost.2);
+pub going_reads : (claims : Claims) (s : Setup) (start now : Option (List ℕ)) (before later : Streams) (run : Run)
+    → Going claims.during s start now run before.sink later.sink → LosesPiece now later.source.left
+    → IsSoOf claims s run → IfSome start (λ bytes. HasAnswers claims s bytes before later [])
+going_reads claims s None now before later run so lost is_so = tt
+going_reads claims s (Some bytes) None before later run so lost is_so = absurd so
+going_reads claims s (Some bytes) (Some xs) before later run so lost is_so = record {
+  served = served claims.during s bytes xs later.source.left lost.0 (inputs_of xs) so.goes.behind refl so.ends
+      (parted xs later.source.left lost.0 lost.2);
   is_piece = lost.1;
   finally = subst (IsSoOf claims s) so.goes.run_is is_so;
-  written = with_nil a b (text_behind so.goes.behind) so.goes.written;
+  written = with_nil before.sink later.sink (text_behind so.goes.behind) so.goes.written;
 }
 
 -- there is no memory
-pub going_stops : (had : Histories) (s : Setup) (start now rest : Option (List ℕ)) (run : Run) (a b : Option (List ℕ))
-    → Going had s start now run a b → LosesSome now rest → IfSome start (λ bytes. BreaksOff had s bytes rest a b [])
-going_stops had s None now rest run a b so lost = tt
-going_stops had s (Some bytes) None rest run a b so lost = absurd so
-going_stops had s (Some bytes) (Some xs) rest run a b so lost = record {
-  served = served had s bytes xs rest lost.0 (inputs_of xs) so.goes.behind refl so.ends (parted xs rest lost.0 lost.1);
+pub going_stops : (had : Histories) (s : Setup) (start now : Option (List ℕ)) (before later : Streams) (run : Run)
+    → Going had s start now run before.sink later.sink → LosesSome now later.source.left
+    → IfSome start (λ bytes. BreaksOff had s bytes before later [])
+going_stops had s None now before later run so lost = tt
+going_stops had s (Some bytes) None before later run so lost = absurd so
+going_stops had s (Some bytes) (Some xs) before later run so lost = record {
+  served = served had s bytes xs later.source.left lost.0 (inputs_of xs) so.goes.behind refl so.ends
+      (parted xs later.source.left lost.0 lost.1);
   text = text_behind so.goes.behind;
   is = inl refl;
   said = text_behind so.goes.behind;
   unsaid = [];
   parts = sym (append-nil (text_behind so.goes.behind));
-  written = with_nil a b (text_behind so.goes.behind) so.goes.written;
+  written = with_nil before.sink later.sink (text_behind so.goes.behind) so.goes.written;
 }
 
 own_parts : (own : List ℕ) (rest : Option (List ℕ)) (ahead : List ℕ) → prepend_known own rest ≡ Some ahead
@@ -318,49 +325,50 @@ own_parts : (own : List ℕ) (rest : Option (List ℕ)) (ahead : List ℕ) → p
 own_parts own None ahead is = tt
 own_parts own (Some unread) ahead is = let same : own ++ unread ≡ ahead = cc in sym same
 
--- the sink fails in what was printed last
-waits_break : (claims : Claims) (s : Setup) (bytes now : List ℕ) (own : List ℕ) (rest : Option (List ℕ)) (run : Run)
-    (a b c : Option (List ℕ)) (pending : List ℕ) → prepend_known own rest ≡ Some now
-    → WaitsOver claims.during s bytes now run a b pending → AppendsPrefix b c pending → IsSoOf claims s run
-    → IsCut claims s bytes rest a c []
-waits_break claims s bytes now own rest run a b c pending is so (n, le, grown) is_so =
+-- the sink fails in what was printed last; it was in `mid` before
+waits_break : (claims : Claims) (s : Setup) (bytes now : List ℕ) (own : List ℕ) (before later : Streams)
+    (mid : SinkState) (run : Run) (pending : List ℕ) → prepend_known own later.source.left ≡ Some now
+    → WaitsOver claims.during s bytes now run before.sink mid pending → WritesPart mid later.sink pending
+    → IsSoOf claims s run → IsCut claims s bytes before later []
+waits_break claims s bytes now own before later mid run pending is so (n, le, grown) is_so =
     let w = so.waits in
     record {
       breaks = record {
-        served = served claims.during s bytes now rest own (inputs_of now) w.behind refl so.ends
-            (own_parts own rest now is);
+        served = served claims.during s bytes now later.source.left own (inputs_of now) w.behind refl so.ends
+            (own_parts own later.source.left now is);
         text = text_behind w.behind;
         is = inl refl;
         said = w.first ++ take n pending;
         unsaid = drop n pending;
         parts = w.parts ∙ ap (λ (l : List ℕ). w.first ++ l) (sym (take-append-drop n pending))
             ∙ sym (append_assoc w.first (take n pending) (drop n pending));
-        written = with_nil a c (w.first ++ take n pending)
-            (Appends-trans a b c w.first (take n pending) w.written grown);
+        written = with_nil before.sink later.sink (w.first ++ take n pending)
+            (both before.sink mid later.sink w.first (take n pending) w.written grown);
       };
       finally = subst (IsSoOf claims s) w.run_is is_so;
     }
 
-breaks_by : (claims : Claims) (s : Setup) (start now : Option (List ℕ)) (own : List ℕ) (rest : Option (List ℕ))
-    (run : Run) (a b c : Option (List ℕ)) (pending : List ℕ) → prepend_known own rest ≡ now
-    → Waiting claims.during s start now run a b pending → AppendsPrefix b c pending → IsSoOf claims s run
-    → IfSome start (λ bytes. IsCut claims s bytes rest a c [])
-breaks_by claims s None now own rest run a b c pending is so part is_so = tt
-breaks_by claims s (Some bytes) None own rest run a b c pending is so part is_so = absurd so
-breaks_by claims s (Some bytes) (Some now) own rest run a b c pending is so part is_so =
-    waits_break claims s bytes now own rest run a b c pending is so part is_so
+breaks_by : (claims : Claims) (s : Setup) (start now : Option (List ℕ)) (own : List ℕ) (before later : Streams)
+    (mid : SinkState) (run : Run) (pending : List ℕ) → prepend_known own later.source.left ≡ now
+    → Waiting claims.during s start now run before.sink mid pending → WritesPart mid later.sink pending
+    → IsSoOf claims s run → IfSome start (λ bytes. IsCut claims s bytes before later [])
+breaks_by claims s None now own before later mid run pending is so part is_so = tt
+breaks_by claims s (Some bytes) None own before later mid run pending is so part is_so = absurd so
+breaks_by claims s (Some bytes) (Some now) own before later mid run pending is so part is_so =
+    waits_break claims s bytes now own before later mid run pending is so part is_so
 
-pub waiting_breaks : (claims : Claims) (s : Setup) (start : Option (List ℕ)) (own : List ℕ) (rest : Option (List ℕ))
-    (run : Run) (a b c : Option (List ℕ)) (pending : List ℕ)
-    → Waiting claims.during s start (prepend_known own rest) run a b pending → AppendsPrefix b c pending
-    → IsSoOf claims s run → IfSome start (λ bytes. IsCut claims s bytes rest a c [])
-waiting_breaks claims s start own rest run a b c pending so part is_so =
-    breaks_by claims s start (prepend_known own rest) own rest run a b c pending refl so part is_so
+pub waiting_breaks : (claims : Claims) (s : Setup) (start : Option (List ℕ)) (own : List ℕ) (before later : Streams)
+    (mid : SinkState) (run : Run) (pending : List ℕ)
+    → Waiting claims.during s start (prepend_known own later.source.left) run before.sink mid pending
+    → WritesPart mid later.sink pending → IsSoOf claims s run
+    → IfSome start (λ bytes. IsCut claims s bytes before later [])
+waiting_breaks claims s start own before later mid run pending so part is_so =
+    breaks_by claims s start (prepend_known own later.source.left) own before later mid run pending refl so part is_so
 
 -- ---- behind the last line
 
-pub going_done : (had : Histories) (s : Setup) (start now : Option (List ℕ)) (run : Run) (a b : Option (List ℕ)) → Going had s start now run a b
-    → IsAtEnd now → IfSome start (λ bytes. Goes had s (inputs_of bytes) run [] a b)
+pub going_done : (had : Histories) (s : Setup) (start now : Option (List ℕ)) (run : Run) (a b : SinkState)
+    → Going had s start now run a b → IsAtEnd now → IfSome start (λ bytes. Goes had s (inputs_of bytes) run [] a b)
 going_done had s None now run a b so end = tt
 going_done had s (Some bytes) None run a b so end = absurd so
 going_done had s (Some bytes) (Some rest) run a b so end =
@@ -376,33 +384,36 @@ at_end : (rest : Option (List ℕ)) → IsAtEnd rest → IsParted [] rest []
 at_end None end = tt
 at_end (Some unread) end = sym end
 
--- the audits were written
-pub done_over : (claims : Claims) (s : Setup) (bytes : List ℕ) (run : Run) (rest a b c : Option (List ℕ))
-    → (so : Goes claims.during s (inputs_of bytes) run [] a b) → IsAtEnd rest
-    → Appends b c (audits_behind so.behind) → IsSoOf claims s run → IsDoneOver claims s bytes rest a c
-done_over claims s bytes run rest a b c so end grown is_so = record {
-  served = served claims.during s bytes [] rest [] [] so.behind refl (ends_whole bytes) (at_end rest end);
+-- the audits were written; the sink was in `mid` before
+pub done_over : (claims : Claims) (s : Setup) (bytes : List ℕ) (run : Run) (before later : Streams) (mid : SinkState)
+    → (so : Goes claims.during s (inputs_of bytes) run [] before.sink mid) → IsAtEnd later.source.left
+    → Writes mid later.sink (audits_behind so.behind) → IsSoOf claims s run → IsDoneOver claims s bytes before later
+done_over claims s bytes run before later mid so end grown is_so = record {
+  served = served claims.during s bytes [] later.source.left [] [] so.behind refl (ends_whole bytes)
+      (at_end later.source.left end);
   all = refl;
   finally = subst (IsSoOf claims s) so.run_is is_so;
-  written = Appends-trans a b c (text_behind so.behind) (audits_behind so.behind) so.written grown;
+  written = both before.sink mid later.sink (text_behind so.behind) (audits_behind so.behind) so.written grown;
 }
 
 -- of the audits a first part was written
-pub done_breaks : (claims : Claims) (s : Setup) (bytes : List ℕ) (run : Run) (rest a b c : Option (List ℕ))
-    (said unsaid : List ℕ) → (so : Goes claims.during s (inputs_of bytes) run [] a b) → IsAtEnd rest
-    → audits_behind so.behind ≡ said ++ unsaid → Appends b c said → IsSoOf claims s run
-    → IsCut claims s bytes rest a c []
-done_breaks claims s bytes run rest a b c said unsaid so end parts grown is_so =
+pub done_breaks : (claims : Claims) (s : Setup) (bytes : List ℕ) (run : Run) (before later : Streams) (mid : SinkState)
+    (said unsaid : List ℕ) → (so : Goes claims.during s (inputs_of bytes) run [] before.sink mid)
+    → IsAtEnd later.source.left → audits_behind so.behind ≡ said ++ unsaid → Writes mid later.sink said
+    → IsSoOf claims s run → IsCut claims s bytes before later []
+done_breaks claims s bytes run before later mid said unsaid so end parts grown is_so =
     let first : List ℕ = text_behind so.behind in
     record {
       breaks = record {
-        served = served claims.during s bytes [] rest [] [] so.behind refl (ends_whole bytes) (at_end rest end);
+        served = served claims.during s bytes [] later.source.left [] [] so.behind refl (ends_whole bytes)
+            (at_end later.source.left end);
         text = first ++ audits_behind so.behind;
         is = inr (refl, refl);
         said = first ++ said;
         unsaid = unsaid;
         parts = ap (λ (l : List ℕ). first ++ l) parts ∙ sym (append_assoc first said unsaid);
-        written = with_nil a c (first ++ said) (Appends-trans a b c first said so.written grown);
+        written = with_nil before.sink later.sink (first ++ said)
+            (both before.sink mid later.sink first said so.written grown);
       };
       finally = subst (IsSoOf claims s) so.run_is is_so;
     }

@@ -5,6 +5,7 @@ use Rattle.qq_setup.specs.declared.setup.Setup.{Setup}
 use Rattle.qq_script_lines.specs.declared.line.ScriptLine.{ScriptLine}
 use Rattle.qq_script_lines.specs.declared.line.ScriptLine.TheVariants.{Attach, Crash, Restart}
 use Rattle.qq_ports.specs.Lines.{first_line, TakesLine, LosesSome, FirstLineLeads}
+use Rattle.qq_ports.specs.Streams.{Streams}
 use Rattle.qq_cluster.specs.Cluster.{Setup as ClusterSetup, Cluster, ClusterEvent}
 use Rattle.qq_cluster.specs.Outcome.{Outcome}
 use Rattle.qq_cluster.specs.Texts.{text_of}
@@ -160,16 +161,14 @@ abbrev pub IsSoAt : Claims → Setup → Run → AskStop → Type 0
 IsSoAt claims s run (asks.Ended ending) = IsRefusal ending → claims.finally (setup_in s run) run.events
 IsSoAt claims s run asks.NoMemory = Unit {0}
 
-pub answer_stops : (met met' : Trouble → Type 0) (claims : Claims) (source sink : Type 0) → IsEarlier met met'
-    → (stop : AskStop) (s : Setup) (start now next rest : Option (List ℕ)) (run : Run) (line : List ℕ)
-    (a b : Option (List ℕ)) → ((bytes : List ℕ) → FirstLineLeads bytes (first_line bytes))
-    → Going claims.during s start now run a b → TakesLine now next line → LosesSome now rest
-    → HasAnswerCause met s run (Some line) stop → IsSoAt claims s run stop
-    → HasStopped (stop_of stop) s start rest a b source sink met' claims []
-answer_stops met met' claims source sink f (asks.Ended ending) s start now next rest run line a b law so takes lost cause
-    is_so =
-    going_ends met' claims s start now next rest ending run line a b law so takes lost
+pub answer_stops : (met met' : Trouble → Type 0) (claims : Claims) → IsEarlier met met' → (stop : AskStop) (s : Setup)
+    (before later : Streams) (now next : Option (List ℕ)) (run : Run) (line : List ℕ)
+    → ((bytes : List ℕ) → FirstLineLeads bytes (first_line bytes))
+    → Going claims.during s before.source.left now run before.sink later.sink → TakesLine now next line
+    → LosesSome now later.source.left → HasAnswerCause met s run (Some line) stop → IsSoAt claims s run stop
+    → HasStopped (stop_of stop) s before later met' claims []
+answer_stops met met' claims f (asks.Ended ending) s before later now next run line law so takes lost cause is_so =
+    going_ends met' claims s before.source.left now next before later ending run line law so takes lost
     (met_earlier met met' f s run (Some line) ending cause) is_so
-answer_stops met met' claims source sink f asks.NoMemory s start now next rest run line a b law so takes lost cause
-    is_so =
-    going_stops claims.during s start now rest run a b so lost
+answer_stops met met' claims f asks.NoMemory s before later now next run line law so takes lost cause is_so =
+    going_stops claims.during s before.source.left now before later run so lost

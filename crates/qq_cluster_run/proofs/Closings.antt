@@ -1,23 +1,23 @@
 -- How a run closes.
-use Rattle.std.proofs.Common.{ℕ, ◌≤◌, inl, inr, List, [], ◌++◌, take, Option, subst, append-nil, arith}
+use Rattle.std.proofs.Common.{ℕ, ◌≤◌, inl, inr, List, [], ◌++◌, take, subst, append-nil, arith}
 use Rattle.std.proofs.lemmas.Bool.{cases_lt}
 use Rattle.std.proofs.lemmas.Option.{IfSome_then}
-use Rattle.std.specs.Io.KnownBytes.{Appends}
-use Rattle.std.proofs.KnownBytes.{Appends-trans}
 use Rattle.qq_base.specs.Causes.{Rose}
 use Rattle.qq_base.proofs.Lists.{AllByRecursion-weaker}
+use Rattle.qq_ports.specs.Streams.{SinkFails, SinkState, SourceState, Streams, Writes}
 use Rattle.qq_setup.specs.declared.setup.Setup.{Setup}
 use Rattle.qq_cluster_run.specs.declared.stop.Stop.{Stop}
 use Rattle.qq_cluster_run.specs.declared.stop.Stop.TheVariants as stops
 use Rattle.qq_cluster_run.specs.Endings.{Ending}
-use Rattle.qq_cluster_run.specs.Serving.{Claims, Histories, run_behind, text_behind}
+use Rattle.qq_cluster_run.specs.Serving.{Claims, Histories, run_behind}
 use Rattle.qq_cluster_run.specs.Runs.{EndsBy, HasAnswers, BreaksOff, IsCut, HasStopped, MayNotOpen, Closes}
 use Rattle.qq_cluster_run.specs.Setup.{cluster_over}
 use Rattle.qq_cluster_run.specs.Troubles.{Trouble, YardFails, DiskFails}
+use Rattle.qq_cluster_run.proofs.Ahead.{both}
 use Rattle.qq_cluster_run.proofs.Answering.{IsEarlier, damaged_earlier, met_earlier, spent_earlier, unsupported_earlier}
 
-without_nil : (a b : Option (List ℕ)) (xs : List ℕ) → Appends a b (xs ++ []) → Appends a b xs
-without_nil a b xs grown = subst (Appends a b) (append-nil xs) grown
+abbrev pub at : SourceState → SinkState → Streams
+at source sink = record { source = source; sink = sink }
 
 Rose_later : (a b c : ℕ) → a ≤ b → b ≤ c → Rose a b → Rose a c
 Rose_later a b c ab bc (inl lt) = inl (omega arith)
@@ -27,93 +27,92 @@ pub Rose_earlier : (a b c : ℕ) → a ≤ b → Rose b c → Rose a c
 Rose_earlier a b c ab (inl lt) = inl (omega arith)
 Rose_earlier a b c ab (inr end) = inr end
 
--- ---- the closing line
+-- ---- between other states of the sink
 
-ends_then : (met : Trouble → Type 0) (claims : Claims) (ending : Ending) (s : Setup) (bytes : List ℕ) (rest a b c : Option (List ℕ))
-    (more : List ℕ) → EndsBy met claims ending s bytes rest a b [] → Appends b c more
-    → EndsBy met claims ending s bytes rest a c more
-ends_then met claims ending s bytes rest a b c more so grown =
-    let text : List ℕ = text_behind so.served.behind in
-    record {
-      served = so.served;
-      next = so.next;
-      finally = so.finally;
-      written = Appends-trans a b c text more (without_nil a b text so.written) grown;
-    }
+-- what was written between two states was written between two others, and then another text
+abbrev pub WritesAlso : (a b c d : SinkState) (more other : List ℕ) → Type 0
+WritesAlso a b c d more other = (text : List ℕ) → Writes a b (text ++ more) → Writes c d (text ++ other)
 
-answers_then : (claims : Claims) (s : Setup) (bytes : List ℕ) (rest a b c : Option (List ℕ)) (more : List ℕ)
-    → HasAnswers claims s bytes rest a b [] → Appends b c more → HasAnswers claims s bytes rest a c more
-answers_then claims s bytes rest a b c more so grown =
-    let text : List ℕ = text_behind so.served.behind in
-    record {
-      served = so.served;
-      is_piece = so.is_piece;
-      finally = so.finally;
-      written = Appends-trans a b c text more (without_nil a b text so.written) grown;
-    }
+ends_also : (met : Trouble → Type 0) (claims : Claims) (ending : Ending) (s : Setup) (bytes : List ℕ)
+    (x y : SourceState) (a b c d : SinkState) (more other : List ℕ) → WritesAlso a b c d more other
+    → EndsBy met claims ending s bytes (at x a) (at y b) more
+    → EndsBy met claims ending s bytes (at x c) (at y d) other
+ends_also met claims ending s bytes x y a b c d more other f so =
+    record { served = so.served; next = so.next; finally = so.finally; written = f _ so.written }
 
-breaks_then : (had : Histories) (s : Setup) (bytes : List ℕ) (rest a b c : Option (List ℕ)) (more : List ℕ)
-    → BreaksOff had s bytes rest a b [] → Appends b c more → BreaksOff had s bytes rest a c more
-breaks_then had s bytes rest a b c more so grown = record {
+answers_also : (claims : Claims) (s : Setup) (bytes : List ℕ) (x y : SourceState) (a b c d : SinkState)
+    (more other : List ℕ) → WritesAlso a b c d more other → HasAnswers claims s bytes (at x a) (at y b) more
+    → HasAnswers claims s bytes (at x c) (at y d) other
+answers_also claims s bytes x y a b c d more other f so =
+    record { served = so.served; is_piece = so.is_piece; finally = so.finally; written = f _ so.written }
+
+breaks_also : (had : Histories) (s : Setup) (bytes : List ℕ) (x y : SourceState) (a b c d : SinkState)
+    (more other : List ℕ) → WritesAlso a b c d more other → BreaksOff had s bytes (at x a) (at y b) more
+    → BreaksOff had s bytes (at x c) (at y d) other
+breaks_also had s bytes x y a b c d more other f so = record {
   served = so.served;
   text = so.text;
   is = so.is;
   said = so.said;
   unsaid = so.unsaid;
   parts = so.parts;
-  written = Appends-trans a b c so.said more (without_nil a b so.said so.written) grown;
+  written = f so.said so.written;
 }
 
-cut_then : (claims : Claims) (s : Setup) (bytes : List ℕ) (rest a b c : Option (List ℕ)) (more : List ℕ)
-    → IsCut claims s bytes rest a b [] → Appends b c more → IsCut claims s bytes rest a c more
-unfolding breaks_then
-cut_then claims s bytes rest a b c more so grown = record {
-  breaks = breaks_then claims.during s bytes rest a b c more so.breaks grown;
+cut_also : (claims : Claims) (s : Setup) (bytes : List ℕ) (x y : SourceState) (a b c d : SinkState)
+    (more other : List ℕ) → WritesAlso a b c d more other → IsCut claims s bytes (at x a) (at y b) more
+    → IsCut claims s bytes (at x c) (at y d) other
+unfolding breaks_also
+cut_also claims s bytes x y a b c d more other f so = record {
+  breaks = breaks_also claims.during s bytes x y a b c d more other f so.breaks;
   finally = so.finally;
 }
 
-stopped_then : (stop : Stop) (s : Setup) (left rest a b c : Option (List ℕ)) (source sink sink' : Type 0)
-    (met : Trouble → Type 0) (claims : Claims) (more : List ℕ) → (sink → sink')
-    → HasStopped stop s left rest a b source sink met claims [] → Appends b c more
-    → HasStopped stop s left rest a c source sink' met claims more
-stopped_then (stops.Ended ending) s left rest a b c source sink sink' met claims more f so grown =
-    (so.0, IfSome_then left so.1 (λ bytes h. ends_then met claims ending s bytes rest a b c more h grown))
-stopped_then stops.ReadFault s left rest a b c source sink sink' met claims more f so grown =
-    (so.0, IfSome_then left so.1 (λ bytes h. answers_then claims s bytes rest a b c more h grown))
-stopped_then stops.WriteFault s left rest a b c source sink sink' met claims more f so grown =
-    (f so.0, IfSome_then left so.1 (λ bytes h. cut_then claims s bytes rest a b c more h grown))
-stopped_then stops.NoMemory s left rest a b c source sink sink' met claims more f so grown =
-    IfSome_then left so (λ bytes h. breaks_then claims.during s bytes rest a b c more h grown)
+pub stopped_also : (stop : Stop) (s : Setup) (x y : SourceState) (a b c d : SinkState) (met : Trouble → Type 0)
+    (claims : Claims) (more other : List ℕ) → (SinkFails a b → SinkFails c d) → WritesAlso a b c d more other
+    → HasStopped stop s (at x a) (at y b) met claims more → HasStopped stop s (at x c) (at y d) met claims other
+stopped_also (stops.Ended ending) s x y a b c d met claims more other fails f so =
+    (so.0, IfSome_then x.left so.1 (λ bytes h. ends_also met claims ending s bytes x y a b c d more other f h))
+stopped_also stops.ReadFault s x y a b c d met claims more other fails f so =
+    (so.0, IfSome_then x.left so.1 (λ bytes h. answers_also claims s bytes x y a b c d more other f h))
+stopped_also stops.WriteFault s x y a b c d met claims more other fails f so =
+    (fails so.0, IfSome_then x.left so.1 (λ bytes h. cut_also claims s bytes x y a b c d more other f h))
+stopped_also stops.NoMemory s x y a b c d met claims more other fails f so =
+    IfSome_then x.left so (λ bytes h. breaks_also claims.during s bytes x y a b c d more other f h)
+
+-- ---- the closing line
+
+then-writes : (a b c : SinkState) (more : List ℕ) → Writes b c more → WritesAlso a b a c [] more
+then-writes a b c more grown text so = both a b c text more (subst (Writes a b) (append-nil text) so) grown
 
 -- a run that stopped, and whose closing line was written, whole or in part
-pub stop_closes : (stop : Stop) (status : ℕ) (ending : Ending) (s : Setup) (left rest a b c : Option (List ℕ))
-    (source : Type 0) (met : Trouble → Type 0) (claims : Claims) (old mid new : ℕ) → old ≤ mid → mid ≤ new
-    → HasStopped stop s left rest a b source (Rose old mid) met claims []
-    → Closes status ending (Rose mid new) (λ more. Appends b c more)
-    → Closes status ending (Rose old new) (λ more. HasStopped stop s left rest a c source (Rose old new) met claims more)
-stop_closes stop status ending s left rest a b c source met claims old mid new before after so (inl (is, grown)) =
+pub stop_closes : (stop : Stop) (status : ℕ) (ending : Ending) (s : Setup) (x y : SourceState) (a b c : SinkState)
+    (met : Trouble → Type 0) (claims : Claims) → a.faults ≤ b.faults → b.faults ≤ c.faults
+    → HasStopped stop s (at x a) (at y b) met claims [] → Closes status ending b c (Writes b c)
+    → Closes status ending a c (λ more. HasStopped stop s (at x a) (at y c) met claims more)
+stop_closes stop status ending s x y a b c met claims before after so (inl (is, grown)) =
     inl (
       is,
-      stopped_then stop s left rest a b c source (Rose old mid) (Rose old new) met claims ending.text
-          (Rose_later old mid new before after) so grown,
+      stopped_also stop s x y a b a c met claims [] ending.text (Rose_later a.faults b.faults c.faults before after)
+          (then-writes a b c ending.text grown) so,
     )
-stop_closes stop status ending s left rest a b c source met claims old mid new before after so (inr (is, rose, part)) =
+stop_closes stop status ending s x y a b c met claims before after so (inr (is, rose, part)) =
     inr (
       is,
-      Rose_earlier old mid new before rose,
+      Rose_earlier a.faults b.faults c.faults before rose,
       (
         part.0,
-        stopped_then stop s left rest a b c source (Rose old mid) (Rose old new) met claims (take part.0 ending.text)
-            (Rose_later old mid new before after) so part.1,
+        stopped_also stop s x y a b a c met claims [] (take part.0 ending.text)
+            (Rose_later a.faults b.faults c.faults before after) (then-writes a b c (take part.0 ending.text) part.1) so,
       ),
     )
 
 -- ---- what a run has met
 
 ends_earlier : (met met' : Trouble → Type 0) (claims : Claims) → IsEarlier met met' → (ending : Ending) (s : Setup)
-    (bytes : List ℕ) (rest a b : Option (List ℕ)) (more : List ℕ) → EndsBy met claims ending s bytes rest a b more
-    → EndsBy met' claims ending s bytes rest a b more
-ends_earlier met met' claims f ending s bytes rest a b more so = record {
+    (bytes : List ℕ) (before later : Streams) (more : List ℕ) → EndsBy met claims ending s bytes before later more
+    → EndsBy met' claims ending s bytes before later more
+ends_earlier met met' claims f ending s bytes before later more so = record {
   served = so.served;
   next = record {
     input = so.next.input;
@@ -127,10 +126,9 @@ ends_earlier met met' claims f ending s bytes rest a b more so = record {
 
 -- since an earlier time
 pub stopped_earlier : (met met' : Trouble → Type 0) (claims : Claims) → IsEarlier met met' → (stop : Stop) (s : Setup)
-    (left rest a b : Option (List ℕ)) (source sink : Type 0) (more : List ℕ)
-    → HasStopped stop s left rest a b source sink met claims more
-    → HasStopped stop s left rest a b source sink met' claims more
-stopped_earlier met met' claims f (stops.Ended ending) s left rest a b source sink more so = (
+    (before later : Streams) (more : List ℕ) → HasStopped stop s before later met claims more
+    → HasStopped stop s before later met' claims more
+stopped_earlier met met' claims f (stops.Ended ending) s before later more so = (
   record {
     read = so.0.read;
     behind = so.0.behind;
@@ -138,11 +136,12 @@ stopped_earlier met met' claims f (stops.Ended ending) s left rest a b source si
     ends = met_earlier met met' f s (run_behind so.0.behind) so.0.input ending so.0.ends;
     finally = so.0.finally;
   },
-  IfSome_then left so.1 (λ bytes h. ends_earlier met met' claims f ending s bytes rest a b more h),
+  IfSome_then before.source.left so.1
+      (λ bytes h. ends_earlier met met' claims f ending s bytes before later more h),
 )
-stopped_earlier met met' claims f stops.ReadFault s left rest a b source sink more so = so
-stopped_earlier met met' claims f stops.WriteFault s left rest a b source sink more so = so
-stopped_earlier met met' claims f stops.NoMemory s left rest a b source sink more so = so
+stopped_earlier met met' claims f stops.ReadFault s before later more so = so
+stopped_earlier met met' claims f stops.WriteFault s before later more so = so
+stopped_earlier met met' claims f stops.NoMemory s before later more so = so
 
 pub unopened_earlier : (met met' : Trouble → Type 0) → IsEarlier met met' → (s : Setup) (ending : Ending)
     → MayNotOpen met s ending → MayNotOpen met' s ending

@@ -3,11 +3,12 @@ use Rattle.std.proofs.Common.{◌≡◌, ◌⊎◌, List, Option, Some, None, �
 use Rattle.qq_setup.specs.declared.setup.Setup.{Setup}
 use Rattle.qq_setup.specs.Setup.{plain_setup, state_of}
 use Rattle.qq_ports.specs.Shelf.{Gives}
+use Rattle.qq_ports.specs.Streams.{ShelfState}
 use Rattle.qq_defs.specs.declared.fault.DefsFault.{DefsFault}
 use Rattle.qq_defs.specs.declared.fault.DefsFault.TheVariants as faults
 use Rattle.qq_defs.specs.Reading.{Fails}
 use Rattle.qq_words.specs.declared.options.Options.{Options}
-use Rattle.qq_cluster_run.specs.Definitions.{Files, IsMadeBy, MayNotRead, read_export, refused_export}
+use Rattle.qq_cluster_run.specs.Definitions.{IsMadeBy, MayNotRead, read_export, refused_export}
 use Rattle.qq_cluster_run.specs.Endings.{Ending, no_memory}
 use Rattle.qq_cluster_run.specs.Runs.{IsSetup}
 
@@ -18,25 +19,25 @@ plain-of options s plain is =
     subst (λ (name : Option (List ℕ)). IsMadeBy name None options (state_of s)) plain is
 
 -- a refused export ends the run by its fault, unless there was no memory
-pub refused : (name : List ℕ) (files : Files) (shelf : Type 0) (options : Options) (bytes : List ℕ) (fault : DefsFault)
-    (ending : Ending) → Gives files name bytes → Fails fault (read_export options bytes) → ending ≡ refused_export fault
-    → (ending ≡ no_memory) ⊎ MayNotRead (Some name) files shelf options ending
-refused name files shelf options bytes (faults.Memory memory) ending gives fails is = inl is
-refused name files shelf options bytes faults.Json ending gives fails is =
+pub refused : (name : List ℕ) (first last : ShelfState) (options : Options) (bytes : List ℕ) (fault : DefsFault)
+    (ending : Ending) → Gives first.files name bytes → Fails fault (read_export options bytes) → ending ≡ refused_export fault
+    → (ending ≡ no_memory) ⊎ MayNotRead (Some name) first last options ending
+refused name first last options bytes (faults.Memory memory) ending gives fails is = inl is
+refused name first last options bytes faults.Json ending gives fails is =
     inr (inr (record { bytes = bytes; gives = gives; fault = faults.Json; reads = fails; is = is }))
-refused name files shelf options bytes faults.NotObject ending gives fails is =
+refused name first last options bytes faults.NotObject ending gives fails is =
     inr (inr (record { bytes = bytes; gives = gives; fault = faults.NotObject; reads = fails; is = is }))
-refused name files shelf options bytes (faults.Missing path) ending gives fails is =
+refused name first last options bytes (faults.Missing path) ending gives fails is =
     inr (inr (record { bytes = bytes; gives = gives; fault = faults.Missing path; reads = fails; is = is }))
-refused name files shelf options bytes (faults.BadArgument argument) ending gives fails is =
+refused name first last options bytes (faults.BadArgument argument) ending gives fails is =
     inr (inr (record { bytes = bytes; gives = gives; fault = faults.BadArgument argument; reads = fails; is = is }))
-refused name files shelf options bytes (faults.Unsupported other) ending gives fails is =
+refused name first last options bytes (faults.Unsupported other) ending gives fails is =
     inr (inr (record { bytes = bytes; gives = gives; fault = faults.Unsupported other; reads = fails; is = is }))
-refused name files shelf options bytes faults.Policies ending gives fails is =
+refused name first last options bytes faults.Policies ending gives fails is =
     inr (inr (record { bytes = bytes; gives = gives; fault = faults.Policies; reads = fails; is = is }))
-refused name files shelf options bytes (faults.UnknownTarget target) ending gives fails is =
+refused name first last options bytes (faults.UnknownTarget target) ending gives fails is =
     inr (inr (record { bytes = bytes; gives = gives; fault = faults.UnknownTarget target; reads = fails; is = is }))
-refused name files shelf options bytes (faults.Limit count) ending gives fails is =
+refused name first last options bytes (faults.Limit count) ending gives fails is =
     inr (inr (record { bytes = bytes; gives = gives; fault = faults.Limit count; reads = fails; is = is }))
 
 -- ---- the first line

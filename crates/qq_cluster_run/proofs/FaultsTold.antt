@@ -23,7 +23,7 @@ use Rattle.qq_cluster_run.specs.Reading.{Asks, says}
 use Rattle.qq_cluster_run.specs.Runs.{IsSetup}
 use Rattle.qq_cluster_run.specs.Serving.{Behind, EndsDamaged, EndsUnsupported, IsReadOf, MayTakeUp, RestartsTo, after_all, run_behind, setup_behind, state_read, text_behind}
 use Rattle.qq_cluster_run.specs.Setup.{Logs, cluster_over, cluster_setup, is_change_of}
-use Rattle.qq_cluster_run.specs.Statuses.{Streams, Met, Had, HasEnded, Over, NextAsks, IsYardFault, NoDisk, AtCrash, MeetsDamage, DamagedAtOpening, DamagedAtRestart, HasLost, LostAtOpening, LostAtRestart, IsSpent, SpentAtOpening, SpentAtLine, Told, Done, Refused, ReadFault, WriteFault, YardFault, Damaged, Lost, Limited, NoMemory, Spent}
+use Rattle.qq_cluster_run.specs.Statuses.{Account, Met, Had, HasEnded, Over, NextAsks, IsYardFault, NoDisk, AtCrash, MeetsDamage, DamagedAtOpening, DamagedAtRestart, HasLost, LostAtOpening, LostAtRestart, IsSpent, SpentAtOpening, SpentAtLine, Told, Done, Refused, ReadFault, WriteFault, YardFault, Damaged, Lost, Limited, NoMemory, Spent}
 use Rattle.qq_cluster_run.specs.Troubles.{Damage, damage_ending, YardFails, DiskFails, FilesBreak, QueueIsFound, NumberEnds}
 use Rattle.qq_cluster_run.proofs.Exports.{plain-of}
 use Rattle.qq_cluster_run.proofs.Statuses.{told}
@@ -31,13 +31,13 @@ use Rattle.qq_cluster_run.proofs.Worked.{publish, said, asks-publish}
 
 -- ---- which fault a status is of
 
-record IsFault (n : ℕ) (options : Options) (s : Streams) : Type 0 where
+record IsFault (n : ℕ) (options : Options) (s : Account) : Type 0 where
   yard : n ≡ 7 → IsYardFault options s
   damaged : n ≡ 8 → MeetsDamage options s
   lost : n ≡ 9 → HasLost options s
   spent : n ≡ 20 → IsSpent options s
 
-none : (n k : ℕ) (options : Options) (s : Streams) → n ≡ k → (k ≤ 6) ⊎ ((10 ≤ k) × (k ≤ 12)) → IsFault n options s
+none : (n k : ℕ) (options : Options) (s : Account) → n ≡ k → (k ≤ 6) ⊎ ((10 ≤ k) × (k ≤ 12)) → IsFault n options s
 none n k options s is (inl low) = record {
   yard = λ e. absurd (omega (arith, is, e, low));
   damaged = λ e. absurd (omega (arith, is, e, low));
@@ -51,7 +51,7 @@ none n k options s is (inr (low, high)) = record {
   spent = λ e. absurd (omega (arith, is, e, high));
 }
 
-is-fault : (n : ℕ) (options : Options) (s : Streams) → Told n options s → IsFault n options s
+is-fault : (n : ℕ) (options : Options) (s : Account) → Told n options s → IsFault n options s
 is-fault n options s (Done is so) = none n 0 options s is (inl (omega arith))
 is-fault n options s (Refused is so) = none n 4 options s is (inl (omega arith))
 is-fault n options s (ReadFault is so) = none n 5 options s is (inl (omega arith))
@@ -85,14 +85,14 @@ is-fault n options s (Spent is so) = record {
 
 -- ---- what is told of each
 
-abbrev YardTold : Options → Streams → Type 0
+abbrev YardTold : Options → Account → Type 0
 YardTold options s =
     (Contains s.troubles YardFails × ((said : List ℕ) × (s.new ≡ s.old ++ (said ++ codes "yard fault\n"))))
     ⊎ ((setup : Setup) × IsSetup options setup
     × ((k : ℕ) → Contains (range_with_len 1 setup.nodes) k → Contains s.troubles (DiskFails k)) × (s.rest ≡ s.bytes)
     × (s.new ≡ s.old ++ codes "yard fault\n"))
 
-pub yard-told : (options : Options) (s : Streams) → HasEnded 7 options s → YardTold options s
+pub yard-told : (options : Options) (s : Account) → HasEnded 7 options s → YardTold options s
 yard-told options s ended = by ((is-fault 7 options s (told 7 options s ended)).yard refl)
   where
     by : IsYardFault options s → YardTold options s
@@ -108,13 +108,13 @@ yard-told options s ended = by ((is-fault 7 options s (told 7 options s ended)).
         )
     by (AtCrash yard over nodes image asks grown) = inl (yard, (text_behind over.served.behind, grown))
 
-abbrev DamageTold : Streams → Type 0
+abbrev DamageTold : Account → Type 0
 DamageTold s =
     (setup : ClusterSetup) × ((events : List ClusterEvent) × ((node : ℕ) × ((damage : Damage)
     × Contains s.troubles (FilesBreak setup events node damage)
     × ((said : List ℕ) × (s.new ≡ s.old ++ (said ++ (damage_ending node damage).text))))))
 
-damage-of : (s : Streams) (setup : ClusterSetup) (nodes : List ℕ) (events : List ClusterEvent) (ending : Ending)
+damage-of : (s : Account) (setup : ClusterSetup) (nodes : List ℕ) (events : List ClusterEvent) (ending : Ending)
     → EndsDamaged (Met s) setup nodes events ending → (said : List ℕ) → s.new ≡ s.old ++ (said ++ ending.text)
     → DamageTold s
 damage-of s setup nodes events ending so said grown = (
@@ -132,7 +132,7 @@ damage-of s setup nodes events ending so said grown = (
   ),
 )
 
-pub damage-told : (options : Options) (s : Streams) → HasEnded 8 options s → DamageTold s
+pub damage-told : (options : Options) (s : Account) → HasEnded 8 options s → DamageTold s
 damage-told options s ended = by ((is-fault 8 options s (told 8 options s ended)).damaged refl)
   where
     by : MeetsDamage options s → DamageTold s
@@ -140,13 +140,13 @@ damage-told options s ended = by ((is-fault 8 options s (told 8 options s ended)
     by (DamagedAtRestart over nodes ending so asks grown) =
         damage-of s _ _ (run_behind over.served.behind).events ending so (text_behind over.served.behind) grown
 
-abbrev SpentTold : Streams → Type 0
+abbrev SpentTold : Account → Type 0
 SpentTold s =
     (setup : ClusterSetup) × ((events : List ClusterEvent) × ((number : ℕ) × ((number ≡ 4294967295) ⊎ (2 ^ 63 ≤ number))
     × Contains s.troubles (NumberEnds setup events number)
     × ((said : List ℕ) × (s.new ≡ s.old ++ (said ++ (codes "spent " ++ decimal number ++ codes "\n"))))))
 
-pub spent-told : (options : Options) (s : Streams) → HasEnded 20 options s → SpentTold s
+pub spent-told : (options : Options) (s : Account) → HasEnded 20 options s → SpentTold s
 spent-told options s ended = by ((is-fault 20 options s (told 20 options s ended)).spent refl)
   where
     by : IsSpent options s → SpentTold s
@@ -175,7 +175,7 @@ spent-told options s ended = by ((is-fault 20 options s (told 20 options s ended
 
 -- ---- a queue that is lost
 
-abbrev LostTold : Options → Streams → Type 0
+abbrev LostTold : Options → Account → Type 0
 LostTold options s =
     (setup : Setup) × IsSetup options setup × (((place : ℕ) × Contains (cluster_setup setup).places place
     × ((first : List ℕ) × ((rest : List ℕ) × ((cluster_setup setup).nodes ≡ first ++ rest)
@@ -219,7 +219,7 @@ all-changes place (op ∷ ops) each =
     and_from (is_change_of (record { 0 = place }) op) (list_all (is_change_of (record { 0 = place })) ops)
     (each op (inl refl)) (all-changes place ops (λ x there. each x (inr there)))
 
-pub lost-told : (options : Options) (s : Streams) → HasEnded 9 options s → LostTold options s
+pub lost-told : (options : Options) (s : Account) → HasEnded 9 options s → LostTold options s
 lost-told options s ended = by ((is-fault 9 options s (told 9 options s ended)).lost refl)
   where
     read-so : (setup : Setup) (place k : ℕ) (lane : Option Stable) → IsReadOf (Met s) (cluster_setup setup) k place lane
@@ -301,7 +301,7 @@ splits-alone [] input more is = (refl, let same : publish ≡ input = cc in sym 
 splits-alone (r ∷ []) input more is = absurd cc
 splits-alone (r ∷ q ∷ read) input more is = absurd cc
 
-asks-that : (options : Options) (s : Streams) → options.definitions ≡ None → options.queues ≡ 1 → s.bytes ≡ codes "publish a\n"
+asks-that : (options : Options) (s : Account) → options.definitions ≡ None → options.queues ≡ 1 → s.bytes ≡ codes "publish a\n"
     → (over : Over options s) (line : ScriptLine) → NextAsks over line → said ≡ line
 asks-that options s plain one bytes over line (input, (more, is), asks) =
     let b = over.served.behind in
@@ -316,7 +316,7 @@ asks-that options s plain one bytes over line (input, (more, is), asks) =
     ∙ sym (ap (says over.setup (length b.read)) split.1) ∙ asks in
     cc
 
-asks-nothing : (options : Options) (s : Streams) → s.bytes ≡ [] → (over : Over options s) (line : ScriptLine)
+asks-nothing : (options : Options) (s : Account) → s.bytes ≡ [] → (over : Over options s) (line : ScriptLine)
     → NextAsks over line → ⊥
 asks-nothing options s bytes over line (input, (more, is), asks) =
     let b = over.served.behind in
@@ -326,7 +326,7 @@ asks-nothing options s bytes over line (input, (more, is), asks) =
     none-left [] e = absurd cc
     none-left (x ∷ read) e = absurd cc
 
-pub yard-unopened : (options : Options) (s : Streams) → HasEnded 7 options s → options.definitions ≡ None
+pub yard-unopened : (options : Options) (s : Account) → HasEnded 7 options s → options.definitions ≡ None
     → options.queues ≡ 1 → s.bytes ≡ codes "publish a\n" → (s.rest ≡ s.bytes) × (s.new ≡ s.old ++ codes "yard fault\n")
 yard-unopened options s ended plain one bytes = by ((is-fault 7 options s (told 7 options s ended)).yard refl)
   where
@@ -335,7 +335,7 @@ yard-unopened options s ended plain one bytes = by ((is-fault 7 options s (told 
     by (AtCrash rose over nodes image asks grown) =
         absurd (let e = asks-that options s plain one bytes over _ asks in cc)
 
-abbrev DamagedFirst : Streams → Type 0
+abbrev DamagedFirst : Account → Type 0
 DamagedFirst s =
     (s.rest ≡ s.bytes) × ((setup : ClusterSetup) × ((damage : Damage)
     × Contains s.troubles (FilesBreak setup [] 1 damage) × (s.new ≡ s.old ++ (damage_ending 1 damage).text)))
@@ -355,7 +355,7 @@ first-node setup nodes one at = by at.before (sym one ∙ at.are) at.restarted
     by (k ∷ []) are rest = absurd cc
     by (k ∷ j ∷ before) are rest = absurd cc
 
-pub damage-unopened : (options : Options) (s : Streams) → HasEnded 8 options s → options.definitions ≡ None
+pub damage-unopened : (options : Options) (s : Account) → HasEnded 8 options s → options.definitions ≡ None
     → options.nodes ≡ 1 → options.queues ≡ 1 → s.bytes ≡ codes "publish a\n" → DamagedFirst s
 damage-unopened options s ended plain nodes one bytes = by ((is-fault 8 options s (told 8 options s ended)).damaged refl)
   where
@@ -384,13 +384,13 @@ damage-unopened options s ended plain nodes one bytes = by ((is-fault 8 options 
     by (DamagedAtRestart over nodes ending so asks grown) =
         absurd (let e = asks-that options s plain one bytes over _ asks in cc)
 
-abbrev LostFirst : Streams → Type 0
+abbrev LostFirst : Account → Type 0
 LostFirst s =
     (s.rest ≡ s.bytes) × ((setup : ClusterSetup) × ((node : ℕ) × ((place : ℕ) × ((lane : Stable)
     × Contains s.troubles (QueueIsFound setup [] node place lane)
     × (s.new ≡ s.old ++ (lost node (setup.name place) 0 lane.op).text)))))
 
-pub lost-unopened : (options : Options) (s : Streams) → HasEnded 9 options s → options.definitions ≡ None
+pub lost-unopened : (options : Options) (s : Account) → HasEnded 9 options s → options.definitions ≡ None
     → options.queues ≡ 1 → s.bytes ≡ codes "publish a\n" → LostFirst s
 lost-unopened options s ended plain one bytes = by ((is-fault 9 options s (told 9 options s ended)).lost refl)
   where
@@ -424,7 +424,7 @@ lost-unopened options s ended plain one bytes = by ((is-fault 9 options s (told 
     by (LostAtRestart over nodes ending so asks grown) =
         absurd (let e = asks-that options s plain one bytes over _ asks in cc)
 
-pub spent-unopened : (options : Options) (s : Streams) → HasEnded 20 options s → s.bytes ≡ []
+pub spent-unopened : (options : Options) (s : Account) → HasEnded 20 options s → s.bytes ≡ []
     → (s.rest ≡ []) × ((number : ℕ) × ((number ≡ 4294967295) ⊎ (2 ^ 63 ≤ number))
     × (s.new ≡ s.old ++ (codes "spent " ++ decimal number ++ codes "\n")))
 spent-unopened options s ended bytes = by ((is-fault 20 options s (told 20 options s ended)).spent refl)

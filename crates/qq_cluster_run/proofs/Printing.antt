@@ -20,7 +20,7 @@ use Rattle.qq_cluster_run.specs.Serving.{AnyDisks, Behind, IsReadOf, setup_behin
 use Rattle.qq_cluster_run.specs.Setup.{Logs, cluster_over, cluster_setup}
 use Rattle.qq_cluster_run.specs.Troubles.{Trouble, YardFails, DiskFails, TakerIsGone}
 use Rattle.qq_cluster_run.specs.Runs.{IsSetup}
-use Rattle.qq_cluster_run.specs.Statuses.{Streams, Met, Had, HasEnded, Over, run_over, IsNext, IsFaulty, IsRefused, IsYardFault, NoDisk, AtCrash, MeetsDamage, DamagedAtOpening, DamagedAtRestart, HasLost, LostAtOpening, LostAtRestart, IsSpent, SpentAtOpening, SpentAtLine, PassesLimit, Told, Done, Refused, ReadFault, WriteFault, YardFault, Damaged, Lost, Limited, NoMemory, Spent}
+use Rattle.qq_cluster_run.specs.Statuses.{Account, Met, Had, HasEnded, Over, run_over, IsNext, IsFaulty, IsRefused, IsYardFault, NoDisk, AtCrash, MeetsDamage, DamagedAtOpening, DamagedAtRestart, HasLost, LostAtOpening, LostAtRestart, IsSpent, SpentAtOpening, SpentAtLine, PassesLimit, Told, Done, Refused, ReadFault, WriteFault, YardFault, Damaged, Lost, Limited, NoMemory, Spent}
 use Rattle.qq_cluster_run.specs.Printing.{HasNoFault}
 use Rattle.qq_cluster_run.proofs.Says.{says_within, says_past}
 use Rattle.qq_cluster_run.proofs.Statuses.{told}
@@ -65,14 +65,14 @@ go_alike settle s all b c logs fine also same judged =
 -- ---- a line that asks for something doesn't end the script
 
 -- a taker was to be given that isn't there
-abbrev IsMissing : Streams → Type 0
+abbrev IsMissing : Account → Type 0
 IsMissing s =
     (setup : ClusterSetup)
     × ((events : List ClusterEvent) × ((number : ℕ) × Contains s.troubles (TakerIsGone setup events number)))
 
 -- all is served, a taker that is to be given isn't there, the disk or its files stop the run, there is no memory, or a
 -- number stands at its end
-abbrev IsServedStatus : Streams → ℕ → Type 0
+abbrev IsServedStatus : Account → ℕ → Type 0
 IsServedStatus s n =
     (n ≡ 0) ⊎ (((n ≡ 4) × IsMissing s) ⊎ ((n ≡ 7) ⊎ ((n ≡ 8) ⊎ ((n ≡ 9) ⊎ ((n ≡ 12) ⊎ (n ≡ 20))))))
 
@@ -92,7 +92,7 @@ asks-at s before (first ∷ read) input more (line ∷ lines) asked =
     let there : (before + 1) + length read ≡ before + suc (length read) = omega arith in
     subst (λ (n : ℕ). AsksFor s n input) there (asks-at s (before + 1) read input more lines asked.1)
 
-next-asks : (options : Options) (s : Streams) → HasNoFault options s → (over : Over options s) (input : Input)
+next-asks : (options : Options) (s : Account) → HasNoFault options s → (over : Over options s) (input : Input)
     → IsNext over input → AsksFor over.setup (run_over over).lines input
 next-asks options s fine over input (more, is) =
     let b = over.served.behind in
@@ -126,7 +126,7 @@ passes-none s lines input text (inl (le, is)) asks =
 passes-none s lines input text (inr (size, reads, is)) asks = says-fault s lines input (faults.Body size) reads asks
 
 -- a line that asks for something is refused for want of a taker alone
-refused-missing : (options : Options) (s : Streams) → HasNoFault options s → (so : IsRefused options s) → IsMissing s
+refused-missing : (options : Options) (s : Account) → HasNoFault options s → (so : IsRefused options s) → IsMissing s
 refused-missing options s fine so = by so.faulty
   where
     by : IsFaulty so.over so.input so.fault → IsMissing s
@@ -135,7 +135,7 @@ refused-missing options s fine so = by so.faulty
         (next-asks options s fine so.over so.input so.is_next))
     by (inr (is, missing)) = (_, (_, (missing.number, missing.met)))
 
-pub served_status : (n : ℕ) (options : Options) (s : Streams) → HasEnded n options s → HasNoFault options s
+pub served_status : (n : ℕ) (options : Options) (s : Account) → HasEnded n options s → HasNoFault options s
     → IsServedStatus s n
 unfolding refused-missing
 served_status n options s ended fine = by (told n options s ended)
@@ -164,7 +164,7 @@ has-none xs x none (at, lt, is) =
 abbrev IsFineStatus : ℕ → Type 0
 IsFineStatus n = (n ≡ 0) ⊎ (n ≡ 12)
 
-no-yard : (options : Options) (s : Streams) → s.troubles ≡ [] → IsYardFault options s → ⊥
+no-yard : (options : Options) (s : Account) → s.troubles ≡ [] → IsYardFault options s → ⊥
 no-yard options s none (NoDisk setup is_setup logs (inl yard) alone) = has-none s.troubles YardFails none yard
 no-yard options s none (NoDisk setup is_setup logs (inr (some, disks)) alone) =
     has-none s.troubles (DiskFails 1) none (first-of setup.nodes some disks)
@@ -175,11 +175,11 @@ no-yard options s none (NoDisk setup is_setup logs (inr (some, disks)) alone) =
     first-of (suc n) some each = each.0
 no-yard options s none (AtCrash yard over nodes image asks prints) = has-none s.troubles YardFails none yard
 
-no-damage : (options : Options) (s : Streams) → s.troubles ≡ [] → MeetsDamage options s → ⊥
+no-damage : (options : Options) (s : Account) → s.troubles ≡ [] → MeetsDamage options s → ⊥
 no-damage options s none (DamagedAtOpening setup is_setup logs ending so alone) = has-none s.troubles _ none so.broken
 no-damage options s none (DamagedAtRestart over nodes ending so asks prints) = has-none s.troubles _ none so.broken
 
-no-lost : (options : Options) (s : Streams) → s.troubles ≡ [] → HasLost options s → ⊥
+no-lost : (options : Options) (s : Account) → s.troubles ≡ [] → HasLost options s → ⊥
 no-lost options s none (LostAtOpening setup is_setup ending so alone) =
     met (so.lanes so.node.0) so.found (so.read so.node so.member so.there)
   where
@@ -188,11 +188,11 @@ no-lost options s none (LostAtOpening setup is_setup ending so alone) =
     met (Some lane) is read = has-none s.troubles _ none read
 no-lost options s none (LostAtRestart over nodes ending so asks prints) = has-none s.troubles _ none so.found
 
-no-spent : (options : Options) (s : Streams) → s.troubles ≡ [] → IsSpent options s → ⊥
+no-spent : (options : Options) (s : Account) → s.troubles ≡ [] → IsSpent options s → ⊥
 no-spent options s none (SpentAtOpening setup is_setup logs ending so alone) = has-none s.troubles _ none so.stands
 no-spent options s none (SpentAtLine over line ending so asks prints) = has-none s.troubles _ none so.stands
 
-pub fine_status : (n : ℕ) (options : Options) (s : Streams) → HasEnded n options s → HasNoFault options s
+pub fine_status : (n : ℕ) (options : Options) (s : Account) → HasEnded n options s → HasNoFault options s
     → s.troubles ≡ [] → IsFineStatus n
 fine_status n options s ended fine none = by (told n options s ended)
   where
@@ -215,7 +215,7 @@ fine_status n options s ended fine none = by (told n options s ended)
 -- ---- a script that ends with 0
 
 -- it printed the text of all its lines and the audits
-abbrev PrintsAll : Options → Streams → Type 0
+abbrev PrintsAll : Options → Account → Type 0
 PrintsAll options s =
     (setup : Setup) × IsSetup options setup
     × ((b : Behind (Had s) setup (inputs_of s.bytes) []) × (s.rest ≡ [])
@@ -223,14 +223,14 @@ PrintsAll options s =
     × (s.new ≡ s.old ++ (text_behind b ++ audits_behind b)))
 
 -- what is left is nothing
-record AllServed (options : Options) (s : Streams) (setup : Setup) (left : List Input)
+record AllServed (options : Options) (s : Account) (setup : Setup) (left : List Input)
     (b : Behind (Had s) setup (inputs_of s.bytes) left) : Type 0 where
   behind : Behind (Had s) setup (inputs_of s.bytes) []
   setup_is : setup_behind behind ≡ setup_behind b
   events : behind.events ≡ b.events
   text : text_behind b ++ audits_behind b ≡ text_behind behind ++ audits_behind behind
 
-all-served : (options : Options) (s : Streams) (setup : Setup) (left : List Input)
+all-served : (options : Options) (s : Account) (setup : Setup) (left : List Input)
     (b : Behind (Had s) setup (inputs_of s.bytes) left) → left ≡ [] → AllServed options s setup left b
 all-served options s setup left b none = record {
   behind = record {
@@ -251,14 +251,14 @@ all-served options s setup left b none = record {
 }
 
 -- nothing has happened but what served all lines
-all-course : (options : Options) (s : Streams) (setup : Setup) (left : List Input)
+all-course : (options : Options) (s : Account) (setup : Setup) (left : List Input)
     (b : Behind (Had s) setup (inputs_of s.bytes) left) → (all : AllServed options s setup left b)
     → Contains s.courses (setup_behind b, b.events) → Contains s.courses (setup_behind all.behind, all.behind.events)
 all-course options s setup left b all course =
     subst (λ (es : List ClusterEvent). Contains s.courses (setup_behind all.behind, es)) (sym all.events)
     (subst (λ (c : ClusterSetup). Contains s.courses (c, b.events)) (sym all.setup_is) course)
 
-pub prints_all : (options : Options) (s : Streams) → HasEnded 0 options s → PrintsAll options s
+pub prints_all : (options : Options) (s : Account) → HasEnded 0 options s → PrintsAll options s
 prints_all options s ended = by (told 0 options s ended)
   where
     by : Told 0 options s → PrintsAll options s

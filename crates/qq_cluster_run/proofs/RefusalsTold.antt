@@ -14,19 +14,19 @@ use Rattle.qq_cluster_run.specs.Inputs.{Input, inputs_of}
 use Rattle.qq_cluster_run.specs.Reading.{Asks, read_input, says}
 use Rattle.qq_cluster_run.specs.Runs.{IsSetup}
 use Rattle.qq_cluster_run.specs.Serving.{Behind, setup_behind, text_behind, audits_behind}
-use Rattle.qq_cluster_run.specs.Statuses.{Streams, Had, HasEnded, Over, IsCourse, Prints, IsFaulty, IsRefused, Told, Done, Refused, ReadFault, WriteFault, YardFault, Damaged, Lost, Limited, NoMemory, Spent}
+use Rattle.qq_cluster_run.specs.Statuses.{Account, Had, HasEnded, Over, IsCourse, Prints, IsFaulty, IsRefused, Told, Done, Refused, ReadFault, WriteFault, YardFault, Damaged, Lost, Limited, NoMemory, Spent}
 use Rattle.qq_cluster_run.specs.Troubles.{TakerIsGone}
 use Rattle.qq_cluster_run.proofs.Statuses.{told}
 
 -- a taker that is to be given isn't there
-abbrev IsMissing : (s : Streams) (setup : Setup) (left : List Input) → Behind (Had s) setup (inputs_of s.bytes) left
+abbrev IsMissing : (s : Account) (setup : Setup) (left : List Input) → Behind (Had s) setup (inputs_of s.bytes) left
     → Input → Type 0
 IsMissing s setup left b input =
     (by : SessionId) × ((at : QueueId) × ((tag : ℕ) × ((number : ℕ)
     × (says setup (length b.read) input ≡ Asks (Attach by at tag number))
     × Contains s.troubles (TakerIsGone (setup_behind b) b.events number))))
 
-abbrev IsRefusedBy : Options → Streams → Type 0
+abbrev IsRefusedBy : Options → Account → Type 0
 IsRefusedBy options s =
     (setup : Setup) × IsSetup options setup × ((left : List Input)
     × ((b : Behind (Had s) setup (inputs_of s.bytes) left) × ((input : Input)
@@ -36,7 +36,7 @@ IsRefusedBy options s =
     × (s.new ≡ s.old ++ (text_behind b ++ (codes "line " ++ decimal (length b.read + 1) ++ codes ": "
     ++ fault_text fault ++ codes "\n")))))))
 
-pub refused-told : (options : Options) (s : Streams) → HasEnded 4 options s → IsRefusedBy options s
+pub refused-told : (options : Options) (s : Account) → HasEnded 4 options s → IsRefusedBy options s
 refused-told options s ended = by (told 4 options s ended)
   where
     of : (so : IsRefused options s) → IsFaulty so.over so.input so.fault → IsRefusedBy options s
@@ -74,13 +74,13 @@ refused-told options s ended = by (told 4 options s ended)
 
 -- ---- nothing more has happened
 
-abbrev HasCourse : Options → Streams → Type 0
+abbrev HasCourse : Options → Account → Type 0
 HasCourse options s =
     (setup : Setup) × IsSetup options setup × ((left : List Input)
     × ((b : Behind (Had s) setup (inputs_of s.bytes) left) × Contains s.courses (setup_behind b, b.events)
     × ((said : List ℕ) × (s.new ≡ s.old ++ (text_behind b ++ said)))))
 
-course-of : (options : Options) (s : Streams) (over : Over options s) → IsCourse over → (said : List ℕ)
+course-of : (options : Options) (s : Account) (over : Over options s) → IsCourse over → (said : List ℕ)
     → Prints over said → HasCourse options s
 course-of options s over course said prints =
     (over.setup, over.is_setup, (over.served.left, (over.served.behind, course, (said, prints))))
@@ -95,7 +95,7 @@ not-whole n k is (inr (inl e)) a b c d = b (omega (arith, is, e))
 not-whole n k is (inr (inr (inl e))) a b c d = c (omega (arith, is, e))
 not-whole n k is (inr (inr (inr e))) a b c d = d (omega (arith, is, e))
 
-pub course-told : (n : ℕ) (options : Options) (s : Streams) → HasEnded n options s → IsWhole n → HasCourse options s
+pub course-told : (n : ℕ) (options : Options) (s : Account) → HasEnded n options s → IsWhole n → HasCourse options s
 course-told n options s ended whole = by (told n options s ended)
   where
     none : (k : ℕ) → n ≡ k → (k ≡ 0 → ⊥) → (k ≡ 4 → ⊥) → (k ≡ 5 → ⊥) → (k ≡ 11 → ⊥) → HasCourse options s

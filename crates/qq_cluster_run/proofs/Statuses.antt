@@ -5,6 +5,7 @@ use Rattle.qq_script_lines.specs.declared.fault.ScriptFault.{ScriptFault}
 use Rattle.qq_script_lines.specs.declared.fault.ScriptFault.TheVariants as faults
 use Rattle.qq_script_lines.specs.declared.line.ScriptLine.{ScriptLine}
 use Rattle.qq_script_lines.specs.declared.line.ScriptLine.TheVariants.{Attach, Crash, Restart}
+use Rattle.qq_ports.specs.Streams.{ShelfState}
 use Rattle.qq_setup.specs.declared.setup.Setup.{Setup}
 use Rattle.qq_words.specs.declared.options.Options.{Options}
 use Rattle.qq_cluster_run.specs.declared.ending.TheConstants.{LINES_LIMIT}
@@ -18,11 +19,11 @@ use Rattle.qq_cluster_run.specs.Runs.{HasStopped, IsRefusal, ending_of, IsSetup,
 use Rattle.qq_cluster_run.proofs.Says.{says_within, says_past}
 use Rattle.qq_cluster_run.proofs.Feeds.{all-served}
 use Rattle.qq_cluster_run.specs.Troubles.{Damage, AtPlace, OfVersion, damage_ending}
-use Rattle.qq_cluster_run.specs.Statuses.{Streams, SourceRose, SinkRose, HasEnded, HasEndedAtWords, Over, run_over, setup_over, Prints, IsNext, Met, Claimed, IsCourse, PrintsAlone, CutWithin, CutAtClosing, CutAtOpening, CutBeforeSetup, NoDisk, AtCrash, DamagedAtOpening, DamagedAtRestart, LostAtOpening, LostAtRestart, PassesLimit, NoneAtOpening, NoneWithin, SpentAtOpening, SpentAtLine, Told, Done, Refused, ReadFault, WriteFault, YardFault, Damaged, Lost, Limited, NoMemory, Spent}
+use Rattle.qq_cluster_run.specs.Statuses.{Account, first_streams, last_streams, HasEnded, HasEndedAtWords, Over, run_over, setup_over, Prints, IsNext, Met, Claimed, IsCourse, PrintsAlone, CutWithin, CutAtClosing, CutAtOpening, CutBeforeSetup, NoDisk, AtCrash, DamagedAtOpening, DamagedAtRestart, LostAtOpening, LostAtRestart, PassesLimit, NoneAtOpening, NoneWithin, SpentAtOpening, SpentAtLine, Told, Done, Refused, ReadFault, WriteFault, YardFault, Damaged, Lost, Limited, NoMemory, Spent}
 
 -- ---- before a line is read
 
-alone : (s : Streams) (text other : List ℕ) → text ≡ other → s.rest ≡ s.bytes → s.new ≡ s.old ++ text → PrintsAlone s other
+alone : (s : Account) (text other : List ℕ) → text ≡ other → s.rest ≡ s.bytes → s.new ≡ s.old ++ text → PrintsAlone s other
 alone s text other same rest grown = (rest, grown ∙ ap (λ (l : List ℕ). s.old ++ l) same)
 
 damage_status : (node : ℕ) (damage : Damage) → (damage_ending node damage).status ≡ 8
@@ -30,13 +31,13 @@ damage_status node (AtPlace file place) = refl
 damage_status node (OfVersion file byte) = refl
 
 -- there is no memory
-none_told : (n : ℕ) (options : Options) (s : Streams) (ending : Ending) → ending ≡ no_memory → n ≡ ending.status
+none_told : (n : ℕ) (options : Options) (s : Account) (ending : Ending) → ending ≡ no_memory → n ≡ ending.status
     → s.rest ≡ s.bytes → s.new ≡ s.old ++ ending.text → Told n options s
 none_told n options s ending e is rest grown =
     NoMemory (is ∙ ap (λ (e : Ending). e.status) e)
     (NoneAtOpening (alone s ending.text (codes "memory\n") (ap (λ (e : Ending). e.text) e) rest grown))
 
-unopened_told : (n : ℕ) (options : Options) (s : Streams) (setup : Setup) → IsSetup options setup → (ending : Ending)
+unopened_told : (n : ℕ) (options : Options) (s : Account) (setup : Setup) → IsSetup options setup → (ending : Ending)
     → MayNotOpen (Met s) setup ending → n ≡ ending.status → s.rest ≡ s.bytes → s.new ≡ s.old ++ ending.text
     → Told n options s
 unopened_told n options s setup is_setup ending (inr (logs, inl e)) is rest grown =
@@ -94,7 +95,7 @@ of_said setup lines input ending is = elim (cases_lt lines LINES_LIMIT) [
       Passes (inl (le, ap (λ (e : Ending). e.text) (sym same))) (ap (λ (e : Ending). e.status) (sym same))
 ]
 
-said_told : (n : ℕ) (options : Options) (s : Streams) (over : Over options s) (input : Input) (ending : Ending)
+said_told : (n : ℕ) (options : Options) (s : Account) (over : Over options s) (input : Input) (ending : Ending)
     → IsNext over input → n ≡ ending.status → Prints over ending.text → (IsRefusal ending → IsCourse over)
     → IsSaid over.setup (run_over over).lines input ending → Told n options s
 said_told n options s over input ending next is grown course (Refuses fault reads same) =
@@ -121,7 +122,7 @@ said_told n options s over input ending next is grown course (Passes passes elev
     })
 
 -- by what it asks for
-stops_told : (n : ℕ) (options : Options) (s : Streams) (over : Over options s) (input : Input) (line : ScriptLine)
+stops_told : (n : ℕ) (options : Options) (s : Account) (over : Over options s) (input : Input) (line : ScriptLine)
     (ending : Ending) → IsNext over input → says over.setup (run_over over).lines input ≡ Asks line → n ≡ ending.status
     → Prints over ending.text → (IsRefusal ending → IsCourse over)
     → StopsAt (Met s) (setup_over over) (run_over over).events ((run_over over).lines + 1) line ending
@@ -147,7 +148,7 @@ stops_told n options s over input (Restart nodes) ending next asks is grown cour
     Lost (is ∙ ap (λ (e : Ending). e.status) so.is) (LostAtRestart over nodes ending so (input, next, asks) grown)
 stops_told n options s over input _ ending next asks is grown course stops = absurd stops
 
-may_stop_told : (n : ℕ) (options : Options) (s : Streams) (over : Over options s) (input : Input) (line : ScriptLine)
+may_stop_told : (n : ℕ) (options : Options) (s : Account) (over : Over options s) (input : Input) (line : ScriptLine)
     (ending : Ending) → IsNext over input → says over.setup (run_over over).lines input ≡ Asks line → n ≡ ending.status
     → Prints over ending.text → (IsRefusal ending → IsCourse over)
     → MayStop (Met s) (setup_over over) (run_over over).events ((run_over over).lines + 1) line ending
@@ -157,7 +158,7 @@ may_stop_told n options s over input line ending next asks is grown course (inl 
 may_stop_told n options s over input line ending next asks is grown course (inr stops) =
     stops_told n options s over input line ending next asks is grown course stops
 
-ends_told : (n : ℕ) (options : Options) (s : Streams) (over : Over options s) (input : Input) (ending : Ending)
+ends_told : (n : ℕ) (options : Options) (s : Account) (over : Over options s) (input : Input) (ending : Ending)
     → IsNext over input → n ≡ ending.status → Prints over ending.text → (IsRefusal ending → IsCourse over)
     → EndsRun (Met s) over.setup (run_over over) input ending → Told n options s
 ends_told n options s over input ending next is grown course (inl says') =
@@ -168,10 +169,9 @@ ends_told n options s over input ending next is grown course (inr stops) =
 
 -- ---- a run that stopped
 
-stopped_told : (n : ℕ) (options : Options) (s : Streams) (setup : Setup) → IsSetup options setup → (stop : Stop)
+stopped_told : (n : ℕ) (options : Options) (s : Account) (setup : Setup) → IsSetup options setup → (stop : Stop)
     → n ≡ (ending_of stop).status
-    → HasStopped stop setup (Some s.bytes) (Some s.rest) (Some s.old) (Some s.new) (SourceRose s) (SinkRose s)
-    (Met s) (Claimed s) (ending_of stop).text
+    → HasStopped stop setup (first_streams s) (last_streams s) (Met s) (Claimed s) (ending_of stop).text
     → Told n options s
 stopped_told n options s setup is_setup (stops.Ended ending) is (may, ends) =
     let over : Over options s = record { setup = setup; is_setup = is_setup; served = ends.served } in
@@ -193,25 +193,24 @@ stopped_told n options s setup is_setup stops.WriteFault is (rose, breaks) =
 stopped_told n options s setup is_setup stops.NoMemory is breaks =
     NoMemory is (NoneWithin setup is_setup breaks)
 
-closes_told : (n : ℕ) (options : Options) (s : Streams) (setup : Setup) → IsSetup options setup → (stop : Stop)
-    → Closes n (ending_of stop) (SinkRose s)
-    (λ more. HasStopped stop setup (Some s.bytes) (Some s.rest) (Some s.old) (Some s.new) (SourceRose s) (SinkRose s)
-    (Met s) (Claimed s) more)
+closes_told : (n : ℕ) (options : Options) (s : Account) (setup : Setup) → IsSetup options setup → (stop : Stop)
+    → Closes n (ending_of stop) (first_streams s).sink (last_streams s).sink
+    (λ more. HasStopped stop setup (first_streams s) (last_streams s) (Met s) (Claimed s) more)
     → Told n options s
 closes_told n options s setup is_setup stop (inl (is, stands)) = stopped_told n options s setup is_setup stop is stands
 closes_told n options s setup is_setup stop (inr (is, rose, (count, stands))) =
     WriteFault is rose (CutAtClosing setup is_setup stop count stands)
 
-unopened_closes : (n : ℕ) (options : Options) (s : Streams) (setup : Setup) → IsSetup options setup → (ending : Ending)
+unopened_closes : (n : ℕ) (options : Options) (s : Account) (setup : Setup) → IsSetup options setup → (ending : Ending)
     → MayNotOpen (Met s) setup ending → s.rest ≡ s.bytes
-    → Closes n ending (SinkRose s) (λ more. s.new ≡ s.old ++ more) → Told n options s
+    → Closes n ending (first_streams s).sink (last_streams s).sink (λ more. s.new ≡ s.old ++ more) → Told n options s
 unopened_closes n options s setup is_setup ending may rest (inl (is, grown)) =
     unopened_told n options s setup is_setup ending may is rest grown
 unopened_closes n options s setup is_setup ending may rest (inr (is, rose, (count, grown))) =
     WriteFault is rose (CutAtOpening setup is_setup ending may count (rest, grown))
 
-none_closes : (n : ℕ) (options : Options) (s : Streams) (ending : Ending) → ending ≡ no_memory → s.rest ≡ s.bytes
-    → Closes n ending (SinkRose s) (λ more. s.new ≡ s.old ++ more) → Told n options s
+none_closes : (n : ℕ) (options : Options) (s : Account) (ending : Ending) → ending ≡ no_memory → s.rest ≡ s.bytes
+    → Closes n ending (first_streams s).sink (last_streams s).sink (λ more. s.new ≡ s.old ++ more) → Told n options s
 none_closes n options s ending e rest (inl (is, grown)) = none_told n options s ending e is rest grown
 none_closes n options s ending e rest (inr (is, rose, (count, grown))) =
     WriteFault is rose
@@ -219,9 +218,8 @@ none_closes n options s ending e rest (inr (is, rose, (count, grown))) =
 
 -- ---- any run
 
-over_told : (n : ℕ) (options : Options) (s : Streams) (setup : Setup) → IsSetup options setup
-    → HasRun n setup (Some s.bytes) (Some s.rest) (Some s.old) (Some s.new) (SourceRose s) (SinkRose s) (Met s)
-    (Claimed s) → Told n options s
+over_told : (n : ℕ) (options : Options) (s : Account) (setup : Setup) → IsSetup options setup
+    → HasRun n setup (first_streams s) (last_streams s) (Met s) (Claimed s) → Told n options s
 over_told n options s setup is_setup (inl unopened) =
     unopened_closes n options s setup is_setup unopened.ending unopened.may unopened.keeps unopened.closes
 over_told n options s setup is_setup (inr (inl done)) =
@@ -236,18 +234,19 @@ over_told n options s setup is_setup (inr (inl done)) =
 over_told n options s setup is_setup (inr (inr stopped)) =
     closes_told n options s setup is_setup stopped.stop stopped.closes
 
-pub told : (n : ℕ) (options : Options) (s : Streams) → HasEnded n options s → Told n options s
+pub told : (n : ℕ) (options : Options) (s : Account) → HasEnded n options s → Told n options s
 told n options s (inl unopened) =
     none_closes n options s unopened.ending unopened.may unopened.keeps unopened.closes
 told n options s (inr over) = over_told n options s over.setup over.is_setup over.ends
 
 -- ---- words that are no command
 
-pub words_usage : (s : Streams) → HasEndedAtWords 2 s → (s.rest ≡ s.bytes) × (s.new ≡ s.old ++ usage.text)
-words_usage s unopened = by unopened.may unopened.closes
+pub words_usage : (first last : ShelfState) (s : Account) → HasEndedAtWords 2 first last s
+    → (s.rest ≡ s.bytes) × (s.new ≡ s.old ++ usage.text)
+words_usage first last s unopened = by unopened.may unopened.closes
   where
     by : (unopened.ending ≡ usage) ⊎ (unopened.ending ≡ no_memory)
-        → Closes 2 unopened.ending (SinkRose s) (λ more. s.new ≡ s.old ++ more)
+        → Closes 2 unopened.ending (first_streams s).sink (last_streams s).sink (λ more. s.new ≡ s.old ++ more)
         → (s.rest ≡ s.bytes) × (s.new ≡ s.old ++ usage.text)
     by (inl e) (inl (is, grown)) = (unopened.keeps, grown ∙ ap (λ (e : Ending). s.old ++ e.text) e)
     by (inr e) (inl (is, grown)) =

@@ -37,7 +37,7 @@ use Rattle.qq_cluster_run.specs.Serving.{Histories, Behind, text_behind, audits_
 use Rattle.qq_cluster_run.specs.Setup.{Logs, cluster_of, cluster_over, cluster_setup, new_logs}
 use Rattle.qq_cluster_run.specs.Printing.{IsQuiet}
 use Rattle.qq_cluster_run.specs.Runs.{BreaksOff, IsSetup}
-use Rattle.qq_cluster_run.specs.Statuses.{Had, Streams, run_over, IsFaulty, IsServed, IsRefused, TakerIsMissing, IsReadFault, PassesLimit, IsLimited}
+use Rattle.qq_cluster_run.specs.Statuses.{Had, Account, first_streams, last_streams, run_over, IsFaulty, IsServed, IsRefused, TakerIsMissing, IsReadFault, PassesLimit, IsLimited}
 use Rattle.qq_defs.proofs.Runnable.{plain-runnable}
 use Rattle.qq_cluster_run.proofs.Exports.{plain-of}
 use Rattle.qq_cluster_run.proofs.Says.{asks_for, says_within}
@@ -241,7 +241,7 @@ read-all : (had : Histories) (s : Setup) (bytes : List ℕ) (left : List Input) 
 read-all had s bytes left b none is =
     sym (b.is ∙ ap (λ (l : List Input). b.read ++ l) none ∙ append-nil b.read) ∙ ap inputs_of is
 
-pub served-prints : Knows → (options : Options) (s : Streams) (done : IsServed options s)
+pub served-prints : Knows → (options : Options) (s : Account) (done : IsServed options s)
     → options.definitions ≡ None → options.nodes ≡ 1 → options.group ≡ 3 → options.queues ≡ 1 → s.bytes ≡ codes "publish a\n" → IsQuiet done.over.served.behind → s.new ≡ s.old ++ whole
 served-prints law options s done plain nodes group one bytes quiet =
     let over = done.over in
@@ -290,7 +290,7 @@ refused-text fault lines words one =
     ∙ ap (λ (n : ℕ). codes "line " ++ decimal (n + 1) ++ codes ": " ++ codes "words" ++ codes "\n") one
 
 -- neither line is to give a taker
-no-missing : (options : Options) (s : Streams) (so : IsRefused options s) → IsOne so.over.setup
+no-missing : (options : Options) (s : Account) (so : IsRefused options s) → IsOne so.over.setup
     → Splits publish (Some (codes "publish")) so.over.served.behind.read so.input → TakerIsMissing so.over so.input → ⊥
 no-missing options s so rows (AtFirst read is) missing =
     let e : Asks said ≡ Asks (Attach missing.by missing.at missing.tag missing.number) =
@@ -304,7 +304,7 @@ no-missing options s so rows (AtSecond read is) missing =
     ∙ ap (λ (r : List Input). says so.over.setup (length r) so.input) (sym read) ∙ missing.asks in
     absurd cc
 
-refused-reads : (options : Options) (s : Streams) (so : IsRefused options s) → IsOne so.over.setup
+refused-reads : (options : Options) (s : Account) (so : IsRefused options s) → IsOne so.over.setup
     → Splits publish (Some (codes "publish")) so.over.served.behind.read so.input
     → read_input so.over.setup (length so.over.served.behind.read + 1) so.input ≡ Err so.fault
 refused-reads options s so rows at = by so.faulty
@@ -314,7 +314,7 @@ refused-reads options s so rows at = by so.faulty
     by (inl reads) = reads
     by (inr (is, missing)) = absurd (no-missing options s so rows at missing)
 
-refused-by : Knows → (options : Options) (s : Streams) (so : IsRefused options s)
+refused-by : Knows → (options : Options) (s : Account) (so : IsRefused options s)
     → IsOne so.over.setup → IsQuiet so.over.served.behind
     → Splits publish (Some (codes "publish")) so.over.served.behind.read so.input
     → s.new ≡ s.old ++ codes "confirmed 1\nline 2: words\n"
@@ -336,7 +336,7 @@ refused-by law options s so rows quiet (AtSecond read is) =
     ∙ ap (λ (l : List ℕ). codes "confirmed 1\n" ++ l)
     (refused-text so.fault (length so.over.served.behind.read) words lines))
 
-pub refused-prints : Knows → (options : Options) (s : Streams) (so : IsRefused options s)
+pub refused-prints : Knows → (options : Options) (s : Account) (so : IsRefused options s)
     → options.definitions ≡ None → options.nodes ≡ 1 → options.group ≡ 3 → options.queues ≡ 1 → s.bytes ≡ codes "publish a\npublish\n" → IsQuiet so.over.served.behind
     → s.new ≡ s.old ++ codes "confirmed 1\nline 2: words\n"
 refused-prints law options s so plain nodes group one bytes quiet =
@@ -344,7 +344,7 @@ refused-prints law options s so plain nodes group one bytes quiet =
     (split-of (Had s) so.over.setup s.bytes so.over.served.left so.over.served.behind so.input so.is_next.0
     (Some (codes "publish")) so.is_next.1 (ap inputs_of bytes))
 
-limited-by : Knows → (options : Options) (s : Streams) (so : IsLimited options s)
+limited-by : Knows → (options : Options) (s : Account) (so : IsLimited options s)
     → IsOne so.over.setup → IsQuiet so.over.served.behind
     → Splits publish (Some (codes "publish =65537")) so.over.served.behind.read so.input
     → PassesLimit so.over.setup (run_over so.over).lines so.input so.text
@@ -373,7 +373,7 @@ limited-by law options s so rows quiet (AtSecond read is) (inr (size, reads, tex
     ∙ ap (λ (l : List ℕ). codes "confirmed 1\n" ++ l)
     (text ∙ ap (λ (n : ℕ). codes "limit body " ++ decimal n ++ codes "\n") sized))
 
-pub limited-prints : Knows → (options : Options) (s : Streams) (so : IsLimited options s)
+pub limited-prints : Knows → (options : Options) (s : Account) (so : IsLimited options s)
     → options.definitions ≡ None → options.nodes ≡ 1 → options.group ≡ 3 → options.queues ≡ 1 → s.bytes ≡ codes "publish a\npublish =65537\n" → IsQuiet so.over.served.behind
     → s.new ≡ s.old ++ codes "confirmed 1\nlimit body 65537\n"
 limited-prints law options s so plain nodes group one bytes quiet =
@@ -453,7 +453,7 @@ fault-read had s all left b is (IsSingle input one) =
     sym is ∙ b.is ∙ ap (λ (l : List Input). b.read ++ l) one in
     read-first b.read input parts (splits publish (Some (codes "publish")) b.read input [] parts)
 
-pub fault-prints : Knows → (options : Options) (s : Streams) (so : IsReadFault options s)
+pub fault-prints : Knows → (options : Options) (s : Account) (so : IsReadFault options s)
     → options.definitions ≡ None → options.nodes ≡ 1 → options.group ≡ 3 → options.queues ≡ 1 → s.bytes ≡ codes "publish a\npublish" → s.rest ≡ [] → IsQuiet so.over.served.behind
     → s.new ≡ s.old ++ codes "confirmed 1\nread fault\n"
 fault-prints law options s so plain nodes group one bytes rest quiet =
@@ -518,7 +518,7 @@ reads-one read left (ReadNone none input more is) some =
     let empty : length read ≡ 0 = ap length none in absurd (omega (arith, empty, some))
 reads-one read left (ReadOne is) some = is
 
-pub whole-fault-prints : Knows → (options : Options) (s : Streams) (so : IsReadFault options s)
+pub whole-fault-prints : Knows → (options : Options) (s : Account) (so : IsReadFault options s)
     → options.definitions ≡ None → options.nodes ≡ 1 → options.group ≡ 3 → options.queues ≡ 1 → s.bytes ≡ codes "publish a\n" → s.rest ≡ [] → IsQuiet so.over.served.behind
     → s.new ≡ s.old ++ codes "confirmed 1\nread fault\n"
 whole-fault-prints law options s so plain nodes group one bytes rest quiet =
@@ -534,8 +534,8 @@ whole-fault-prints law options s so plain nodes group one bytes rest quiet =
     (text-one law (Had s) so.over.setup rows (inputs_of s.bytes) served.left served.behind quiet
     (reads-one served.behind.read served.left (reads-of served.behind.read served.left parts) some)))
 
-pub cut-prints : Knows → (options : Options) (s : Streams) (setup : Setup) → IsSetup options setup
-    → (more : List ℕ) (so : BreaksOff (Had s) setup s.bytes (Some s.rest) (Some s.old) (Some s.new) more)
+pub cut-prints : Knows → (options : Options) (s : Account) (setup : Setup) → IsSetup options setup
+    → (more : List ℕ) (so : BreaksOff (Had s) setup s.bytes (first_streams s) (last_streams s) more)
     → options.definitions ≡ None → options.nodes ≡ 1 → options.group ≡ 3 → options.queues ≡ 1
     → s.bytes ≡ codes "publish a\n" → IsQuiet so.served.behind
     → (said : List ℕ) × (s.new ≡ s.old ++ (said ++ more)) × IsFront said whole

@@ -17,7 +17,7 @@ use Rattle.qq_cluster_run.specs.Reading.{AskFor}
 use Rattle.qq_cluster_run.specs.Serving.{Histories, Behind, setup_behind, cluster_behind}
 use Rattle.qq_cluster_run.specs.Runs.{IsSetup}
 use Rattle.qq_cluster_run.specs.Setup.{new_logs}
-use Rattle.qq_cluster_run.specs.Statuses.{Streams, SourceRose, SinkRose}
+use Rattle.qq_cluster_run.specs.Statuses.{Account, SourceRose, SinkRose}
 
 -- what was printed so far, and a queue and its audit as they stand
 abbrev pub printed_behind :
@@ -49,7 +49,7 @@ pub record IsQuiet {had : Histories} {s : Setup} {all left : List Input} (b : Be
   pub unasked : verdicts b.events ≡ []
 
 -- each line of an input asks for something, and neither source nor sink has failed
-pub record HasNoFault (options : Options) (s : Streams) : Type 0 where
+pub record HasNoFault (options : Options) (s : Account) : Type 0 where
   pub asks : (setup : Setup) → IsSetup options setup
       → (lines : List ScriptLine) × AskFor setup 0 (inputs_of s.bytes) lines
   pub read : SourceRose s → ⊥

@@ -13,11 +13,11 @@ use Rattle.qq_script_lines.specs.declared.line.ScriptLine.{ScriptLine}
 use Rattle.qq_script_lines.specs.declared.line.ScriptLine.TheVariants.{Attach, Crash, Restart}
 use Rattle.qq_words.specs.declared.options.Options.{Options}
 use Rattle.qq_ports.specs.Lines.{HasNoFeed}
+use Rattle.qq_ports.specs.Streams.{ShelfState, Streams}
 use Rattle.qq_cluster.specs.Cluster.{Setup as ClusterSetup, ClusterEvent}
 use Rattle.qq_cluster.specs.Lines.{IsLine, nodes_of}
 use Rattle.qq_cluster.specs.Rules.{IsOpening}
 use Rattle.qq_cluster_run.specs.declared.stop.Stop.{Stop}
-use Rattle.qq_cluster_run.specs.Definitions.{Files}
 use Rattle.qq_cluster_run.specs.Endings.{Ending, fault_text, no_memory}
 use Rattle.qq_cluster_run.specs.Inputs.{Input, feed_count}
 use Rattle.qq_cluster_run.specs.Reading.{Asks, read_input, says}
@@ -29,7 +29,7 @@ use Rattle.qq_cluster_run.specs.Troubles.{Trouble, YardFails, TakerIsGone}
 -- What the source had and has, what the sink had and has, and their counts of faults before and after; what went wrong
 -- below; what may have happened by then to the clusters whose disks and takers these were; and what may have happened to
 -- them in all.
-pub record Streams : Type 0 where
+pub record Account : Type 0 where
   pub bytes : List ℕ
   pub rest : List ℕ
   pub old : List ℕ
@@ -42,76 +42,85 @@ pub record Streams : Type 0 where
   pub histories : List (ClusterSetup × List ClusterEvent)
   pub courses : List (ClusterSetup × List ClusterEvent)
 
-abbrev pub SourceRose : Streams → Type 0
+-- its streams at first and in the end
+abbrev pub first_streams : Account → Streams
+first_streams s = record {
+  source = record { left = Some s.bytes; faults = s.source_before };
+  sink = record { written = Some s.old; faults = s.sink_before };
+}
+
+abbrev pub last_streams : Account → Streams
+last_streams s = record {
+  source = record { left = Some s.rest; faults = s.source_after };
+  sink = record { written = Some s.new; faults = s.sink_after };
+}
+
+abbrev pub SourceRose : Account → Type 0
 SourceRose s = Rose s.source_before s.source_after
 
-abbrev pub SinkRose : Streams → Type 0
+abbrev pub SinkRose : Account → Type 0
 SinkRose s = Rose s.sink_before s.sink_after
 
-abbrev pub Met : Streams → Trouble → Type 0
+abbrev pub Met : Account → Trouble → Type 0
 Met s trouble = Contains s.troubles trouble
 
-abbrev pub Had : Streams → Histories
+abbrev pub Had : Account → Histories
 Had s setup events = Contains s.histories (setup, events)
 
-abbrev pub Claimed : Streams → Claims
+abbrev pub Claimed : Account → Claims
 Claimed s = record { during = Had s; finally = λ setup events. Contains s.courses (setup, events) }
 
 -- a script with these options has ended with this status; `old` is what stood there when the line of an export was written
-abbrev pub HasEnded : ℕ → Options → Streams → Type 0
-HasEnded status options s =
-    ScriptEnds status options (Some s.bytes) (Some s.rest) (Some s.old) (Some s.new) (SourceRose s) (SinkRose s)
-    (Met s) (Claimed s)
+abbrev pub HasEnded : ℕ → Options → Account → Type 0
+HasEnded status options s = ScriptEnds status options (first_streams s) (last_streams s) (Met s) (Claimed s)
 
--- and in all, over a shelf with these files that counted so many faults before and after
-abbrev pub HasEndedOver : ℕ → Options → Files → (before after : ℕ) → Streams → Type 0
-HasEndedOver status options files before after s =
-    RunEnds status (Some options) files (Some s.bytes) (Some s.rest) (Some s.old) (Some s.new) (SourceRose s)
-    (Rose before after) (SinkRose s) (Met s) (Claimed s)
+-- and in all, over a shelf that was this at first and in the end
+abbrev pub HasEndedOver : ℕ → Options → (first last : ShelfState) → Account → Type 0
+HasEndedOver status options first last s =
+    RunEnds status (Some options) first last (first_streams s) (last_streams s) (Met s) (Claimed s)
 
--- words that are no command have ended with this status
-abbrev pub HasEndedAtWords : ℕ → Streams → Type 0
-HasEndedAtWords status s =
-    RunEnds status None None (Some s.bytes) (Some s.rest) (Some s.old) (Some s.new) (SourceRose s) ⊥ (SinkRose s)
-    (Met s) (Claimed s)
+-- words that are no command have ended with this status, whatever was on a shelf
+abbrev pub HasEndedAtWords : ℕ → (first last : ShelfState) → Account → Type 0
+HasEndedAtWords status first last s =
+    RunEnds status None first last (first_streams s) (last_streams s) (Met s) (Claimed s)
 
 -- ---- some lines were served, and more was printed
 
-pub record Over (options : Options) (s : Streams) : Type 0 where
+pub record Over (options : Options) (s : Account) : Type 0 where
   pub setup : Setup
   pub is_setup : IsSetup options setup
   pub served : Served (Had s) setup s.bytes (Some s.rest)
 
-abbrev pub run_over : {options : Options} {s : Streams} → Over options s → Run
+abbrev pub run_over : {options : Options} {s : Account} → Over options s → Run
 run_over over = run_behind over.served.behind
 
-abbrev pub setup_over : {options : Options} {s : Streams} → Over options s → ClusterSetup
+abbrev pub setup_over : {options : Options} {s : Account} → Over options s → ClusterSetup
 setup_over over = setup_behind over.served.behind
 
 -- nothing has happened but what served these lines
-abbrev pub IsCourse : {options : Options} {s : Streams} → Over options s → Type 0
+abbrev pub IsCourse : {options : Options} {s : Account} → Over options s → Type 0
 IsCourse {options} {s} over = Contains s.courses (setup_over over, (run_over over).events)
 
 -- behind the text so far stands this
-abbrev pub Prints : {options : Options} {s : Streams} → Over options s → List ℕ → Type 0
+abbrev pub Prints : {options : Options} {s : Account} → Over options s → List ℕ → Type 0
 Prints {options} {s} over more = s.new ≡ s.old ++ (text_behind over.served.behind ++ more)
 
 -- this line stands behind them
-abbrev pub IsNext : {options : Options} {s : Streams} → Over options s → Input → Type 0
+abbrev pub IsNext : {options : Options} {s : Account} → Over options s → Input → Type 0
 IsNext over input = (more : List Input) × (over.served.left ≡ input ∷ more)
 
 -- the next line asks for this
-abbrev pub NextAsks : {options : Options} {s : Streams} → Over options s → ScriptLine → Type 0
+abbrev pub NextAsks : {options : Options} {s : Account} → Over options s → ScriptLine → Type 0
 NextAsks over line = (input : Input) × IsNext over input × (says over.setup (run_over over).lines input ≡ Asks line)
 
 -- nothing was read, and this alone was printed
-abbrev pub PrintsAlone : Streams → List ℕ → Type 0
+abbrev pub PrintsAlone : Account → List ℕ → Type 0
 PrintsAlone s text = (s.rest ≡ s.bytes) × (s.new ≡ s.old ++ text)
 
 -- ---- what each status tells
 
 -- 0: all lines were served, and then the audits were printed.
-pub record IsServed (options : Options) (s : Streams) : Type 0 where
+pub record IsServed (options : Options) (s : Account) : Type 0 where
   pub over : Over options s
   pub all : over.served.left ≡ []
   pub read : s.rest ≡ []
@@ -119,7 +128,7 @@ pub record IsServed (options : Options) (s : Streams) : Type 0 where
   pub prints : Prints over (audits_behind over.served.behind)
 
 -- a line that is read is to give a consumer a taker that isn't there, or was given away
-pub record TakerIsMissing {options : Options} {s : Streams} (over : Over options s) (input : Input) : Type 0 where
+pub record TakerIsMissing {options : Options} {s : Account} (over : Over options s) (input : Input) : Type 0 where
   pub by : SessionId
   pub at : QueueId
   pub tag : ℕ
@@ -128,13 +137,13 @@ pub record TakerIsMissing {options : Options} {s : Streams} (over : Over options
   pub met : Met s (TakerIsGone (setup_over over) (run_over over).events number)
 
 -- the fault of the next line
-abbrev pub IsFaulty : {options : Options} {s : Streams} → Over options s → Input → ScriptFault → Type 0
+abbrev pub IsFaulty : {options : Options} {s : Account} → Over options s → Input → ScriptFault → Type 0
 IsFaulty over input fault =
     (read_input over.setup ((run_over over).lines + 1) input ≡ Err fault)
     ⊎ ((fault ≡ NoSuch) × TakerIsMissing over input)
 
 -- 4: the next line is refused, by its number and its fault.
-pub record IsRefused (options : Options) (s : Streams) : Type 0 where
+pub record IsRefused (options : Options) (s : Account) : Type 0 where
   pub over : Over options s
   pub input : Input
   pub is_next : IsNext over input
@@ -145,7 +154,7 @@ pub record IsRefused (options : Options) (s : Streams) : Type 0 where
       (codes "line " ++ decimal ((run_over over).lines + 1) ++ codes ": " ++ fault_text fault ++ codes "\n")
 
 -- 5: the source has failed. All lines that were read whole were served: as many as end within what was read.
-pub record IsReadFault (options : Options) (s : Streams) : Type 0 where
+pub record IsReadFault (options : Options) (s : Account) : Type 0 where
   pub rose : SourceRose s
   pub over : Over options s
   pub piece : HasNoFeed over.served.piece
@@ -154,18 +163,18 @@ pub record IsReadFault (options : Options) (s : Streams) : Type 0 where
   pub prints : Prints over (codes "read fault\n")
 
 -- 6: the sink has failed, in what the lines and audits print, or in a closing line.
-pub data IsCutOff (options : Options) (s : Streams) : Type 0 where
+pub data IsCutOff (options : Options) (s : Account) : Type 0 where
   CutWithin : (setup : Setup) → IsSetup options setup
-      → IsCut (Claimed s) setup s.bytes (Some s.rest) (Some s.old) (Some s.new) [] → IsCutOff options s
+      → IsCut (Claimed s) setup s.bytes (first_streams s) (last_streams s) [] → IsCutOff options s
   CutAtClosing : (setup : Setup) → IsSetup options setup → (stop : Stop) (count : ℕ)
-      → HasStopped stop setup (Some s.bytes) (Some s.rest) (Some s.old) (Some s.new) (SourceRose s) (SinkRose s)
-      (Met s) (Claimed s) (take count (ending_of stop).text) → IsCutOff options s
+      → HasStopped stop setup (first_streams s) (last_streams s) (Met s) (Claimed s) (take count (ending_of stop).text)
+      → IsCutOff options s
   CutAtOpening : (setup : Setup) → IsSetup options setup → (ending : Ending) → MayNotOpen (Met s) setup ending
       → (count : ℕ) → PrintsAlone s (take count ending.text) → IsCutOff options s
   CutBeforeSetup : (count : ℕ) → PrintsAlone s (take count no_memory.text) → IsCutOff options s
 
 -- 7: when the cluster was opened the yard has failed, or each node's disk has; or the yard has failed at a crash.
-pub data IsYardFault (options : Options) (s : Streams) : Type 0 where
+pub data IsYardFault (options : Options) (s : Account) : Type 0 where
   NoDisk : (setup : Setup) → IsSetup options setup → (logs : Logs) → HasNoDisk (Met s) (cluster_over setup logs)
       → PrintsAlone s (codes "yard fault\n") → IsYardFault options s
   AtCrash : Met s YardFails → (over : Over options s) (nodes : Nodes) (image : Image)
@@ -173,7 +182,7 @@ pub data IsYardFault (options : Options) (s : Streams) : Type 0 where
 
 -- 8: nodes are recovered in order, and the log files of one break their rules: of all nodes, when the cluster is opened,
 -- or of those that are restarted.
-pub data MeetsDamage (options : Options) (s : Streams) : Type 0 where
+pub data MeetsDamage (options : Options) (s : Account) : Type 0 where
   DamagedAtOpening : (setup : Setup) → IsSetup options setup → (logs : Logs) (ending : Ending)
       → EndsDamaged (Met s) (cluster_over setup logs) (cluster_over setup logs).nodes [] ending
       → PrintsAlone s ending.text → MeetsDamage options s
@@ -183,7 +192,7 @@ pub data MeetsDamage (options : Options) (s : Streams) : Type 0 where
 
 -- 9: when the cluster is opened what recovery reads of a queue supports no audit, or at a restart it finds of a queue what
 -- its member may not take up.
-pub data HasLost (options : Options) (s : Streams) : Type 0 where
+pub data HasLost (options : Options) (s : Account) : Type 0 where
   LostAtOpening : (setup : Setup) → IsSetup options setup → (ending : Ending) → EndsUnsupported (Met s) setup ending
       → PrintsAlone s ending.text → HasLost options s
   LostAtRestart : (over : Over options s) (nodes : Nodes) (ending : Ending)
@@ -198,7 +207,7 @@ PassesLimit setup lines input text =
     × (text ≡ codes "limit body " ++ decimal size ++ codes "\n"))
 
 -- 11: the next line passes a limit.
-pub record IsLimited (options : Options) (s : Streams) : Type 0 where
+pub record IsLimited (options : Options) (s : Account) : Type 0 where
   pub over : Over options s
   pub input : Input
   pub is_next : IsNext over input
@@ -208,14 +217,14 @@ pub record IsLimited (options : Options) (s : Streams) : Type 0 where
   pub prints : Prints over text
 
 -- 12: there was no memory, and a first part of what is printed was written.
-pub data HasNoMemory (options : Options) (s : Streams) : Type 0 where
+pub data HasNoMemory (options : Options) (s : Account) : Type 0 where
   NoneAtOpening : PrintsAlone s (codes "memory\n") → HasNoMemory options s
   NoneWithin : (setup : Setup) → IsSetup options setup
-      → BreaksOff (Had s) setup s.bytes (Some s.rest) (Some s.old) (Some s.new) (codes "memory\n")
+      → BreaksOff (Had s) setup s.bytes (first_streams s) (last_streams s) (codes "memory\n")
       → HasNoMemory options s
 
 -- 20: a number stands at its end.
-pub data IsSpent (options : Options) (s : Streams) : Type 0 where
+pub data IsSpent (options : Options) (s : Account) : Type 0 where
   SpentAtOpening : (setup : Setup) → IsSetup options setup → (logs : Logs) (ending : Ending)
       → EndsSpent (Met s) (cluster_over setup logs) (IsOpening (cluster_over setup logs)) [] ending
       → PrintsAlone s ending.text → IsSpent options s
@@ -225,7 +234,7 @@ pub data IsSpent (options : Options) (s : Streams) : Type 0 where
 
 -- ---- all of them
 
-pub data Told (status : ℕ) (options : Options) (s : Streams) : Type 0 where
+pub data Told (status : ℕ) (options : Options) (s : Account) : Type 0 where
   Done : status ≡ 0 → IsServed options s → Told status options s
   Refused : status ≡ 4 → IsRefused options s → Told status options s
   ReadFault : status ≡ 5 → IsReadFault options s → Told status options s

@@ -1,8 +1,8 @@
 ghost use Rattle.std.specs.Prelude.{◌≡◌, ◌≤◌, ◌++◌, List, length, flat_map, IfOk, IfErr, OnOk, OnErr, IsOkUnless};
-ghost use Rattle.std.specs.Io.KnownBytes.{Appends};
-ghost use Rattle.qq_base.specs.Causes.{Rose, HasCause};
+ghost use Rattle.qq_base.specs.Causes.{HasCause};
 ghost use Rattle.qq_entry.specs.declared.audit.AuditRow.{AuditRow};
 ghost use Rattle.qq_ports.specs.Faults.{IsCaused};
+ghost use Rattle.qq_ports.specs.Streams.{sink_state};
 ghost use Rattle.qq_script.specs.Audit.{audit_text, row_text};
 ghost use Rattle.qq_cluster_run.specs.Pieces.{HasPrefix, HasSomePrefix, HasPrintCause, IsNextRow};
 
@@ -18,10 +18,12 @@ const PIECE: usize = 32_768;
 
 // Writes the text where it has become long, and empties it.
 fn drain<O: Sink>(text: &mut Vec<u8>, output: &mut O) -> Result<(), Failed>
-    ensures ok { OnOk result (HasPrefix (O.written output.old) (O.written output.new)
+    ensures ok { OnOk result (HasPrefix (sink_state O.written O.faults output.old)
+        (sink_state O.written O.faults output.new)
         text.old.items text.new.items) }
     ensures err { OnErr result
-        (HasSomePrefix (O.written output.old) (O.written output.new) text.old.items) }
+        (HasSomePrefix (sink_state O.written O.faults output.old)
+        (sink_state O.written O.faults output.new) text.old.items) }
     ensures cause { HasCause IsCaused (O.faults output.old) (O.faults output.new) result }
 {
     if text.len() < PIECE {
@@ -43,12 +45,15 @@ fn add_row<O: Sink>(
     text: &mut Vec<u8>,
     output: &mut O,
 ) -> Result<(), PrintFault>
-    ensures ok { OnOk result (HasPrefix (O.written output.old) (O.written output.new)
+    ensures ok { OnOk result (HasPrefix (sink_state O.written O.faults output.old)
+        (sink_state O.written O.faults output.new)
         (text.old.items ++ row_text row.now) text.new.items) }
-    ensures err { OnErr result (HasSomePrefix (O.written output.old) (O.written output.new)
+    ensures err { OnErr result (HasSomePrefix (sink_state O.written O.faults output.old)
+        (sink_state O.written O.faults output.new)
         (text.old.items ++ row_text row.now)) }
     ensures cause { IfErr result (λ fault.
-        HasPrintCause fault (Rose (O.faults output.old) (O.faults output.new))) }
+        HasPrintCause fault (sink_state O.written O.faults output.old)
+        (sink_state O.written O.faults output.new)) }
     ensures later { O.faults output.old ≤ O.faults output.new }
 {
     if let Err(_) = row_text(alloc, row, text) {
@@ -85,12 +90,15 @@ fn add_rows<R: Rows, O: Sink>(
     text: &mut Vec<u8>,
     output: &mut O,
 ) -> Result<(), PrintFault>
-    ensures ok { OnOk result (HasPrefix (O.written output.old) (O.written output.new)
+    ensures ok { OnOk result (HasPrefix (sink_state O.written O.faults output.old)
+        (sink_state O.written O.faults output.new)
         (text.old.items ++ flat_map row_text (R.left rows.old)) text.new.items) }
-    ensures err { OnErr result (HasSomePrefix (O.written output.old) (O.written output.new)
+    ensures err { OnErr result (HasSomePrefix (sink_state O.written O.faults output.old)
+        (sink_state O.written O.faults output.new)
         (text.old.items ++ flat_map row_text (R.left rows.old))) }
     ensures cause { IfErr result (λ fault.
-        HasPrintCause fault (Rose (O.faults output.old) (O.faults output.new))) }
+        HasPrintCause fault (sink_state O.written O.faults output.old)
+        (sink_state O.written O.faults output.new)) }
     ensures later { O.faults output.old ≤ O.faults output.new }
 {
     let count = rows.count();
@@ -121,12 +129,15 @@ pub fn add_audit<R: Rows, O: Sink>(
     text: &mut Vec<u8>,
     output: &mut O,
 ) -> Result<(), PrintFault>
-    ensures ok { OnOk result (HasPrefix (O.written output.old) (O.written output.new)
+    ensures ok { OnOk result (HasPrefix (sink_state O.written O.faults output.old)
+        (sink_state O.written O.faults output.new)
         (text.old.items ++ audit_text name.now 0 (R.left rows.old)) text.new.items) }
-    ensures err { OnErr result (HasSomePrefix (O.written output.old) (O.written output.new)
+    ensures err { OnErr result (HasSomePrefix (sink_state O.written O.faults output.old)
+        (sink_state O.written O.faults output.new)
         (text.old.items ++ audit_text name.now 0 (R.left rows.old))) }
     ensures cause { IfErr result (λ fault.
-        HasPrintCause fault (Rose (O.faults output.old) (O.faults output.new))) }
+        HasPrintCause fault (sink_state O.written O.faults output.old)
+        (sink_state O.written O.faults output.new)) }
     ensures later { O.faults output.old ≤ O.faults output.new }
 {
     if let Err(_) = audit_head_text(alloc, name, Index(0), rows.count(), text) {

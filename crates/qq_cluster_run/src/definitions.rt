@@ -1,8 +1,7 @@
 //! The setup of a script, by its words and by the export that they name.
 ghost use Rattle.std.specs.Prelude.{◌≡◌, ◌⊎◌, ◌≤◌, Some, IfOk, IfErr, IsOkUnless, OnOk, ◌++◌};
-ghost use Rattle.std.specs.Io.KnownBytes.{Appends};
-ghost use Rattle.qq_base.specs.Causes.{Rose};
 ghost use Rattle.qq_defs.specs.Runnable.{IsRunnable};
+ghost use Rattle.qq_ports.specs.Streams.{Writes, shelf_state, sink_state};
 ghost use Rattle.qq_setup.specs.Setup.{state_of, plain_setup};
 ghost use Rattle.qq_cluster_run.specs.Definitions.{HasMadeCause, IsMadeBy, IsSetupOver, MayNotBegin, MayNotRead, counted, made_counts, made_text, skipped_counts};
 ghost use Rattle.qq_cluster_run.specs.Endings.{no_memory};
@@ -45,8 +44,8 @@ fn read_setup<S: Shelf>(
         IsMadeBy (Some name.now) (S.files shelf.old) options.now (state_of setup)) }
     ensures runs { IfOk result (λ setup. IsRunnable (state_of setup)) }
     ensures cause { IfErr result (λ ending. (ending ≡ no_memory)
-        ⊎ MayNotRead (Some name.now) (S.files shelf.old)
-        (Rose (S.faults shelf.old) (S.faults shelf.new)) options.now ending) }
+        ⊎ MayNotRead (Some name.now) (shelf_state S.files S.faults shelf.old)
+        (shelf_state S.files S.faults shelf.new) options.now ending) }
     ensures later { S.faults shelf.old ≤ S.faults shelf.new }
 {
     setups_may_be_run();
@@ -74,8 +73,8 @@ fn read_setup<S: Shelf>(
 pub fn set_up<S: Shelf>(alloc: Global, options: &Options, shelf: &mut S) -> Result<Setup, Ending>
     ensures ok { IfOk result (IsSetupOver (S.files shelf.old) options.now) }
     ensures runs { IfOk result (λ setup. IsRunnable (state_of setup)) }
-    ensures cause { IfErr result (MayNotBegin (S.files shelf.old)
-        (Rose (S.faults shelf.old) (S.faults shelf.new)) options.now) }
+    ensures cause { IfErr result (MayNotBegin (shelf_state S.files S.faults shelf.old)
+        (shelf_state S.files S.faults shelf.new) options.now) }
     ensures later { S.faults shelf.old ≤ S.faults shelf.new }
 {
     match &options.definitions {
@@ -131,10 +130,10 @@ pub fn write_made<O: Sink>(
     made: &Option<Made>,
     output: &mut O,
 ) -> Result<(), PrintFault>
-    ensures ok { OnOk result
-        (Appends (O.written output.old) (O.written output.new) (made_text made.now)) }
-    ensures cause { IfErr result (λ fault. HasMadeCause fault made.now (O.written output.old)
-        (O.written output.new) (Rose (O.faults output.old) (O.faults output.new))) }
+    ensures ok { OnOk result (Writes (sink_state O.written O.faults output.old)
+        (sink_state O.written O.faults output.new) (made_text made.now)) }
+    ensures cause { IfErr result (λ fault. HasMadeCause fault made.now
+        (sink_state O.written O.faults output.old) (sink_state O.written O.faults output.new)) }
     ensures later { O.faults output.old ≤ O.faults output.new }
 {
     let Some(counts) = made else {

@@ -1,14 +1,14 @@
 //! What an export comes to in a run, as laws: the functions do nothing, and their contracts are the laws.
 ghost use Rattle.std.specs.Prelude.{◌≡◌, ◌⊎◌, ◌++◌, [], ℕ, List, Option, Some, None, Ok, Err, codes};
 ghost use Rattle.std.specs.Fmt.{decimal};
-ghost use Rattle.qq_base.specs.Causes.{Rose};
+ghost use Rattle.qq_ports.specs.Streams.{ShelfFails, ShelfState};
 ghost use Rattle.qq_setup.specs.Setup.{SetupState};
 ghost use Rattle.qq_defs.specs.Definitions.{document, read_setup};
 ghost use Rattle.qq_defs.specs.declared.fault.DefsFault.{DefsFault};
 ghost use Rattle.qq_defs.specs.declared.fault.DefsFault.TheVariants as faults;
 ghost use Rattle.qq_words.specs.declared.options.Options.{Options};
 ghost use Rattle.qq_cluster_run.specs.Definitions.{made_text, refused_export};
-ghost use Rattle.qq_cluster_run.specs.Statuses.{HasEnded, HasEndedOver, SinkRose, Streams};
+ghost use Rattle.qq_cluster_run.specs.Statuses.{HasEnded, HasEndedOver, SinkRose, Account};
 
 /// A law: what is printed of an export that is refused, and of what was made of one.
 pub fn closing_lines_name_the_fault()
@@ -50,27 +50,28 @@ pub fn closing_lines_name_the_fault()
 /// - `made`: else the line of what was made of it was written, and behind that line all is as the other laws say; or
 ///   the shelf or the sink has failed by then, or there was no memory.
 pub fn exports_are_read_first()
-    ensures plain { (status before after : ℕ) (options : Options)
-        (files : Option (List ℕ → Option (List ℕ))) (s : Streams) → options.definitions ≡ None →
-        HasEndedOver status options files before after s → HasEnded status options s }
-    ensures refused { (before after : ℕ) (options : Options) (files : List ℕ → Option (List ℕ))
-        (s : Streams) → HasEndedOver 3 options (Some files) before after s →
+    ensures plain { (status : ℕ) (options : Options) (first last : ShelfState) (s : Account) →
+        options.definitions ≡ None → HasEndedOver status options first last s →
+        HasEnded status options s }
+    ensures refused { (options : Options) (first last : ShelfState)
+        (files : List ℕ → Option (List ℕ)) (s : Account) → first.files ≡ Some files →
+        HasEndedOver 3 options first last s →
         (name : List ℕ) × ((bytes : List ℕ) × ((fault : DefsFault)
         × (options.definitions ≡ Some name) × (files name ≡ Some bytes)
         × (read_setup options.ignore_policies options.nodes options.log_bytes (document bytes)
         ≡ Err fault) × (s.rest ≡ s.bytes) × (s.new ≡ s.old ++ (refused_export fault).text))) }
-    ensures always { (status before after : ℕ) (options : Options)
-        (files : List ℕ → Option (List ℕ)) (s : Streams) (name bytes : List ℕ) (fault : DefsFault) →
-        HasEndedOver status options (Some files) before after s →
+    ensures always { (status : ℕ) (options : Options) (first last : ShelfState)
+        (files : List ℕ → Option (List ℕ)) (s : Account) (name bytes : List ℕ) (fault : DefsFault) →
+        first.files ≡ Some files → HasEndedOver status options first last s →
         options.definitions ≡ Some name → files name ≡ Some bytes →
         read_setup options.ignore_policies options.nodes options.log_bytes (document bytes)
         ≡ Err fault → (status ≡ (refused_export fault).status)
-        ⊎ (((status ≡ 5) × Rose before after) ⊎ (((status ≡ 6) × SinkRose s) ⊎ (status ≡ 12))) }
-    ensures made { (status before after : ℕ) (options : Options)
-        (files : List ℕ → Option (List ℕ)) (s : Streams) (name bytes : List ℕ) (setup : SetupState) →
-        HasEndedOver status options (Some files) before after s →
+        ⊎ (((status ≡ 5) × ShelfFails first last) ⊎ (((status ≡ 6) × SinkRose s) ⊎ (status ≡ 12))) }
+    ensures made { (status : ℕ) (options : Options) (first last : ShelfState)
+        (files : List ℕ → Option (List ℕ)) (s : Account) (name bytes : List ℕ) (setup : SetupState) →
+        first.files ≡ Some files → HasEndedOver status options first last s →
         options.definitions ≡ Some name → files name ≡ Some bytes →
         read_setup options.ignore_policies options.nodes options.log_bytes (document bytes)
         ≡ Ok setup → HasEnded status options (record s { old = s.old ++ made_text setup.made })
-        ⊎ (((status ≡ 5) × Rose before after) ⊎ (((status ≡ 6) × SinkRose s) ⊎ (status ≡ 12))) }
+        ⊎ (((status ≡ 5) × ShelfFails first last) ⊎ (((status ≡ 6) × SinkRose s) ⊎ (status ≡ 12))) }
 {}

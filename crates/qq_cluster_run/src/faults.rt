@@ -21,7 +21,7 @@ ghost use Rattle.qq_cluster_run.specs.Reading.{Asks, read_input, says};
 ghost use Rattle.qq_cluster_run.specs.Runs.{IsSetup};
 ghost use Rattle.qq_cluster_run.specs.Serving.{Behind, MayTakeUp, after_all, setup_behind, state_read, text_behind};
 ghost use Rattle.qq_cluster_run.specs.Setup.{Logs, cluster_over, cluster_setup, is_change_of};
-ghost use Rattle.qq_cluster_run.specs.Statuses.{Had, Streams, HasEnded};
+ghost use Rattle.qq_cluster_run.specs.Statuses.{Had, Account, HasEnded};
 ghost use Rattle.qq_cluster_run.specs.Troubles.{Damage, AtPlace, OfVersion, damage_ending, YardFails, DiskFails, FilesBreak, QueueIsFound, NumberEnds, TakerIsGone};
 
 /// A law: what is printed of a node's files that break the rules, and of a queue that is lost.
@@ -41,7 +41,7 @@ pub fn closing_lines_name_the_node()
 /// A law: what status 4 tells. The next line is refused, and its fault is printed: it reads so; or it is to give a
 /// consumer a taker, and after the events that served the lines before it none of that number was there.
 pub fn refused_lines_are_told()
-    ensures { (options : Options) (s : Streams) → HasEnded 4 options s →
+    ensures { (options : Options) (s : Account) → HasEnded 4 options s →
         (setup : Setup) × IsSetup options setup × ((left : List Input)
         × ((b : Behind (Had s) setup (inputs_of s.bytes) left) × ((input : Input)
         × ((more : List Input) × (left ≡ input ∷ more)) × ((fault : ScriptFault)
@@ -61,17 +61,17 @@ pub fn refused_lines_are_told()
 /// - `spent`: the number that is printed last is 2^32 - 1, the most messages that a bag holds, or 2^63 or more, and
 ///   after some events it stood at its end.
 pub fn faults_are_told()
-    ensures yard { (options : Options) (s : Streams) → HasEnded 7 options s →
+    ensures yard { (options : Options) (s : Account) → HasEnded 7 options s →
         (Contains s.troubles YardFails
         × ((said : List ℕ) × (s.new ≡ s.old ++ (said ++ codes "yard fault\n"))))
         ⊎ ((setup : Setup) × IsSetup options setup
         × ((k : ℕ) → Contains (range_with_len 1 setup.nodes) k → Contains s.troubles (DiskFails k))
         × (s.rest ≡ s.bytes) × (s.new ≡ s.old ++ codes "yard fault\n")) }
-    ensures damaged { (options : Options) (s : Streams) → HasEnded 8 options s →
+    ensures damaged { (options : Options) (s : Account) → HasEnded 8 options s →
         (setup : ClusterSetup) × ((events : List ClusterEvent) × ((node : ℕ) × ((damage : Damage)
         × Contains s.troubles (FilesBreak setup events node damage)
         × ((said : List ℕ) × (s.new ≡ s.old ++ (said ++ (damage_ending node damage).text)))))) }
-    ensures spent { (options : Options) (s : Streams) → HasEnded 20 options s →
+    ensures spent { (options : Options) (s : Account) → HasEnded 20 options s →
         (setup : ClusterSetup) × ((events : List ClusterEvent) × ((number : ℕ)
         × ((number ≡ 4294967295) ⊎ (2 ^ 63 ≤ number))
         × Contains s.troubles (NumberEnds setup events number)
@@ -90,7 +90,7 @@ pub fn faults_are_told()
 /// and its member may not take up what recovery has read: it was noticed of more, its log was handed fewer, or that
 /// isn't what its ops come to.
 pub fn lost_queues_are_told()
-    ensures { (options : Options) (s : Streams) → HasEnded 9 options s →
+    ensures { (options : Options) (s : Account) → HasEnded 9 options s →
         (setup : Setup) × IsSetup options setup × (((place : ℕ)
         × Contains (cluster_setup setup).places place × ((first : List ℕ) × ((rest : List ℕ)
         × ((cluster_setup setup).nodes ≡ first ++ rest) × ((lanes : ℕ → Option Stable)
@@ -129,21 +129,21 @@ pub fn lost_queues_are_told()
 /// - `lost`: recovery has read ops of a queue on a node before anything has happened.
 /// - `spent`: of a script without a line.
 pub fn faults_come_where_they_are_asked_for()
-    ensures yard { (options : Options) (s : Streams) → HasEnded 7 options s →
+    ensures yard { (options : Options) (s : Account) → HasEnded 7 options s →
         options.definitions ≡ None → options.queues ≡ 1 → s.bytes ≡ codes "publish a\n" →
         (s.rest ≡ s.bytes) × (s.new ≡ s.old ++ codes "yard fault\n") }
-    ensures damaged { (options : Options) (s : Streams) → HasEnded 8 options s →
+    ensures damaged { (options : Options) (s : Account) → HasEnded 8 options s →
         options.definitions ≡ None → options.nodes ≡ 1 → options.queues ≡ 1 →
         s.bytes ≡ codes "publish a\n" →
         (s.rest ≡ s.bytes) × ((setup : ClusterSetup) × ((damage : Damage)
         × Contains s.troubles (FilesBreak setup [] 1 damage)
         × (s.new ≡ s.old ++ (damage_ending 1 damage).text))) }
-    ensures lost { (options : Options) (s : Streams) → HasEnded 9 options s →
+    ensures lost { (options : Options) (s : Account) → HasEnded 9 options s →
         options.definitions ≡ None → options.queues ≡ 1 → s.bytes ≡ codes "publish a\n" →
         (s.rest ≡ s.bytes) × ((setup : ClusterSetup) × ((node : ℕ) × ((place : ℕ)
         × ((lane : Stable) × Contains s.troubles (QueueIsFound setup [] node place lane)
         × (s.new ≡ s.old ++ (lost node (setup.name place) 0 lane.op).text))))) }
-    ensures spent { (options : Options) (s : Streams) → HasEnded 20 options s → s.bytes ≡ [] →
+    ensures spent { (options : Options) (s : Account) → HasEnded 20 options s → s.bytes ≡ [] →
         (s.rest ≡ []) × ((number : ℕ) × ((number ≡ 4294967295) ⊎ (2 ^ 63 ≤ number))
         × (s.new ≡ s.old ++ (codes "spent " ++ decimal number ++ codes "\n"))) }
 {}

@@ -1,6 +1,7 @@
 //! Laws of runs: the functions do nothing, and their contracts are the laws.
 ghost use Rattle.std.specs.Prelude.{◌≡◌, ◌⊎◌, ◌≤◌, ◌<◌, ◌+◌, ◌++◌, [], ℕ, List, false, codes, Contains};
 ghost use Rattle.std.specs.Fmt.{decimal};
+ghost use Rattle.qq_ports.specs.Streams.{ShelfState};
 ghost use Rattle.qq_setup.specs.declared.setup.Setup.{Setup};
 ghost use Rattle.qq_words.specs.declared.options.Options.{Options};
 ghost use Rattle.qq_cluster.specs.Cluster.{ClusterEvent, Setup as ClusterSetup};
@@ -10,7 +11,7 @@ ghost use Rattle.qq_cluster_run.specs.Inputs.{Input, inputs_of};
 ghost use Rattle.qq_cluster_run.specs.Printing.{HasNoFault};
 ghost use Rattle.qq_cluster_run.specs.Reading.{Ends, read_input, says_by, says};
 ghost use Rattle.qq_cluster_run.specs.Serving.{AnyDisks, Behind, audits_behind, setup_behind, text_behind};
-ghost use Rattle.qq_cluster_run.specs.Statuses.{Had, Streams, HasEnded, HasEndedAtWords, Told};
+ghost use Rattle.qq_cluster_run.specs.Statuses.{Had, Account, HasEnded, HasEndedAtWords, Told};
 ghost use Rattle.qq_cluster_run.specs.Runs.{IsSetup};
 ghost use Rattle.qq_cluster_run.specs.Troubles.{TakerIsGone};
 
@@ -31,9 +32,9 @@ use qq_cluster::{a_cluster_prints_what_is_true, lines_settle};
 ///   messages that a bag holds. There is no other status.
 /// - `usage`: nothing was read, and the usage was printed.
 pub fn a_status_tells_what_was_done()
-    ensures told { (status : ℕ) (options : Options) (s : Streams) → HasEnded status options s
+    ensures told { (status : ℕ) (options : Options) (s : Account) → HasEnded status options s
         → Told status options s }
-    ensures usage { (s : Streams) → HasEndedAtWords 2 s →
+    ensures usage { (first last : ShelfState) (s : Account) → HasEndedAtWords 2 first last s →
         (s.rest ≡ s.bytes) × (s.new ≡ s.old ++ usage.text) }
 {}
 
@@ -45,14 +46,14 @@ pub fn a_status_tells_what_was_done()
 /// - `printed`: of a script that ends with 0 all lines were served, by events that the disks had and that are all that
 ///   happened, and their text and then the audits were printed.
 pub fn scripts_are_served()
-    ensures served { (status : ℕ) (options : Options) (s : Streams) → HasEnded status options s
+    ensures served { (status : ℕ) (options : Options) (s : Account) → HasEnded status options s
         → HasNoFault options s → (status ≡ 0) ⊎ (((status ≡ 4)
         × ((setup : ClusterSetup) × ((events : List ClusterEvent) × ((number : ℕ)
         × Contains s.troubles (TakerIsGone setup events number)))))
         ⊎ ((status ≡ 7) ⊎ ((status ≡ 8) ⊎ ((status ≡ 9) ⊎ ((status ≡ 12) ⊎ (status ≡ 20)))))) }
-    ensures fine { (status : ℕ) (options : Options) (s : Streams) → HasEnded status options s
+    ensures fine { (status : ℕ) (options : Options) (s : Account) → HasEnded status options s
         → HasNoFault options s → s.troubles ≡ [] → (status ≡ 0) ⊎ (status ≡ 12) }
-    ensures printed { (options : Options) (s : Streams) → HasEnded 0 options s →
+    ensures printed { (options : Options) (s : Account) → HasEnded 0 options s →
         (setup : Setup) × IsSetup options setup
         × ((b : Behind (Had s) setup (inputs_of s.bytes) []) × (s.rest ≡ [])
         × Contains s.histories (setup_behind b, b.events)
@@ -63,7 +64,7 @@ pub fn scripts_are_served()
 /// A law: where a script ends with 0, with 4 or 11 by its next line, or with 5 since the source has failed, nothing has
 /// happened but what served its first lines, and their text was printed.
 pub fn ended_scripts_did_what_they_print()
-    ensures { (status : ℕ) (options : Options) (s : Streams) → HasEnded status options s →
+    ensures { (status : ℕ) (options : Options) (s : Account) → HasEnded status options s →
         (status ≡ 0) ⊎ ((status ≡ 4) ⊎ ((status ≡ 5) ⊎ (status ≡ 11))) →
         (setup : Setup) × IsSetup options setup × ((left : List Input)
         × ((b : Behind (Had s) setup (inputs_of s.bytes) left)

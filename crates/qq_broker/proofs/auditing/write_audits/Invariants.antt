@@ -1,4 +1,5 @@
 use Rattle.std.proofs.Common.{◌≤◌}
+use Rattle.qq_ports.specs.Streams.{sink_state}
 use Rattle.qq_broker.proofs.Audited.{AuditsOn}
 use Rattle.qq_broker.proofs.auditing.write_audits.Given as goal
 
@@ -6,7 +7,8 @@ use Rattle.qq_broker.proofs.auditing.write_audits.Given as goal
 abbrev pub invariant-loop-row : goal.invariant-loop-row
 invariant-loop-row g l = record {
   so :
-      AuditsOn g.D.NodeDisk.tells g.D.NodeDisk.past g.D.NodeDisk.faults l.setup l.nodes (g.O.Sink.written l.fn.output)
-      (g.O.Sink.written l.output) l.text.items l.rows l.row-index;
+      AuditsOn g.D.NodeDisk.tells g.D.NodeDisk.past g.D.NodeDisk.faults l.setup l.nodes
+      (sink_state g.O.Sink.written g.O.Sink.faults l.fn.output) (sink_state g.O.Sink.written g.O.Sink.faults l.output)
+      l.text.items l.rows l.row-index;
   later : g.O.Sink.faults l.fn.output ≤ g.O.Sink.faults l.output;
 }

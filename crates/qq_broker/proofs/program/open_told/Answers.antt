@@ -1,4 +1,5 @@
 use Rattle.std.proofs.Common.{◌≡◌, ℕ, List, [], inl, inr, refl, subst, arith}
+use Rattle.qq_ports.specs.Streams.{sink_state, source_state}
 use Rattle.qq_cluster.specs.Outcome.{Outcome}
 use Rattle.qq_cluster_run.proofs.Beginnings.{closed-at-once}
 use Rattle.qq_cluster_run.proofs.Closings.{unopened_earlier}
@@ -21,16 +22,15 @@ pub returns-in-Err-clause-ends : goal.returns-in-Err-clause-ends
 returns-in-Err-clause-ends g c =
     let disk = g.Y.Disk.NodeDisk in
     let given = under g.Y.Yard.is_given c.args.root.now in
-    let written = g.O.Sink.written in
-    let faults = g.O.Sink.faults in
+    let source = source_state g.I.Source.left g.I.Source.faults in
+    let sink = sink_state g.O.Sink.written g.O.Sink.faults in
     let yards = g.Y.Yard.faults in
     let s = c.args.setup.now in
     let takers = c.args.told.now.takers in
     let below = Meets given disk.tells disk.past disk.faults (yards c.args.yard.now) (yards c.open.new.yard) in
     let met = RunMeets given disk.tells disk.past disk.faults takers (yards c.args.yard.now) (yards c.open.new.yard) in
-    inl (closed-at-once c.close.result c.in-Err.ending (g.I.Source.left c.args.input.now) (written c.args.output.now)
-    (written c.args.output.now) (written c.close.new.output) (faults c.args.output.now) (faults c.args.output.now)
-    (faults c.close.new.output) (MayNotOpen met s) (omega arith) refl
+    inl (closed-at-once c.close.result c.in-Err.ending (source c.args.input.now) (sink c.args.output.now)
+    (sink c.args.output.now) (sink c.close.new.output) (MayNotOpen met s) (omega arith) refl
     (unopened_earlier below met
     (run-meets given disk.tells disk.past disk.faults takers (yards c.args.yard.now) (yards c.open.new.yard)) s
     c.in-Err.ending c.in-Err.ensures.cause)
@@ -39,8 +39,8 @@ returns-in-Err-clause-ends g c =
 pub returns-clause-ends : goal.returns-clause-ends
 returns-clause-ends g c =
     let disk = g.Y.Disk.NodeDisk in
-    let written = g.O.Sink.written in
-    let faults = g.O.Sink.faults in
+    let source = source_state g.I.Source.left g.I.Source.faults in
+    let sink = sink_state g.O.Sink.written g.O.Sink.faults in
     let yards = g.Y.Yard.faults in
     let given = under g.Y.Yard.is_given c.args.root.now in
     let s = c.args.setup.now in
@@ -50,11 +50,10 @@ returns-clause-ends g c =
     c.requires.empty c.in-Ok.ensures.ok in
     run-stopped given disk.tells disk.past disk.faults c.args.told.now.takers c.serve_script.new.told.takers s
     c.in-Err-serve_script.stop
-    c.close-in-Err-serve_script.result c.ending.result (g.I.Source.left c.args.input.now)
-    (g.I.Source.left c.serve_script.new.input) (written c.args.output.now) (written c.serve_script.new.output)
-    (written c.close-in-Err-serve_script.new.output) _ (yards c.args.yard.now) (yards c.open.new.yard)
-    (yards c.serve_script.new.yard) (faults c.args.output.now) (faults c.serve_script.new.output)
-    (faults c.close-in-Err-serve_script.new.output) c.in-Ok.ensures.later c.serve_script.ensures.sink_later
+    c.close-in-Err-serve_script.result c.ending.result (source c.args.input.now) (source c.serve_script.new.input)
+    (sink c.args.output.now) (sink c.serve_script.new.output) (sink c.close-in-Err-serve_script.new.output)
+    (yards c.args.yard.now) (yards c.open.new.yard) (yards c.serve_script.new.yard) c.in-Ok.ensures.later
+    c.serve_script.ensures.later.1
     c.close-in-Err-serve_script.ensures.later
     (c.in-Err-serve_script.ensures.cause given c.args.told.now.takers opened)
     c.close-in-Err-serve_script.ensures.closes c.ending.ensures

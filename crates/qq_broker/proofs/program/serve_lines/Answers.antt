@@ -1,5 +1,6 @@
 use Rattle.std.proofs.Common.{[], ap, refl, sym, subst, ◌∙◌, arith}
 use Rattle.qq_ports.specs.Lines.{ahead, TakesLine}
+use Rattle.qq_ports.specs.Streams.{sink_state, streams}
 use Rattle.qq_cluster_run.proofs.Closings.{Rose_earlier}
 use Rattle.qq_cluster_run.proofs.Looping.{loops_start}
 use Rattle.qq_taker.specs.Takers.{Takers}
@@ -13,12 +14,13 @@ use Rattle.qq_broker.proofs.program.serve_lines.Goals as goal
 pub lines-init : goal.lines-init
 lines-init g c =
     let disk = g.Y.Disk.NodeDisk in
+    let sink = sink_state g.O.Sink.written g.O.Sink.faults in
     let s = c.args.setup.now in
     record {
       going = λ given first opened.
           loops_start (RunHad given disk.tells disk.past disk.faults first) s
           (HoldsAll given disk.tells disk.past disk.faults s first c.args.nodes.now c.args.told.now.takers)
-          (g.I.Source.left c.args.input.now) (g.O.Sink.written c.args.output.now) c.new-lines.result
+          (g.I.Source.left c.args.input.now) (sink c.args.output.now) c.new-lines.result
           (record { text = []; takers = first }) c.args.told.now c.new-lines.ensures refl
           (opened-all given disk.tells disk.past disk.faults s first c.args.nodes.now [] c.args.told.now opened);
       within = omega arith;
@@ -30,59 +32,63 @@ lines-init g c =
 pub returns-in-Err-clause-cause : goal.returns-in-Err-clause-cause
 returns-in-Err-clause-cause g c = λ given first opened.
     (let disk = g.Y.Disk.NodeDisk in
+    let at = streams g.I.Source.left g.I.Source.faults g.O.Sink.written g.O.Sink.faults in
+    let sink = sink_state g.O.Sink.written g.O.Sink.faults in
     let faults = g.O.Sink.faults in (
       Rose_earlier (faults c.args.output.now) (faults c.lines.output) (faults c.write_all.new.out)
           c.lines.invariant.sink_later c.in-Err.ensures.cause.cause,
-      lines-break given disk.tells disk.past disk.faults first c.args.setup.now (g.I.Source.left c.args.input.now)
-          (g.O.Sink.written c.args.output.now) c.lines.nodes c.lines.told.takers c.lines.lines (g.I.Source.left c.lines.input)
-          (g.O.Sink.written c.lines.output) (g.O.Sink.written c.write_all.new.out) c.lines.served c.lines.told.text
+      lines-break given disk.tells disk.past disk.faults first c.args.setup.now (at c.args.input.now c.args.output.now) c.lines.nodes c.lines.told.takers c.lines.lines (sink c.lines.output)
+          (at c.lines.input c.write_all.new.out) c.lines.served c.lines.told.text
           c.text.result.now (c.lines.invariant.going given first opened) c.text.ensures c.in-Err.ensures.err,
     ))
 
 pub returns-in-Ok-None-clause-ok : goal.returns-in-Ok-None-clause-ok
 returns-in-Ok-None-clause-ok g c = λ given first opened.
     (let disk = g.Y.Disk.NodeDisk in
-    rw c.clear.ensures (lines-end given disk.tells disk.past disk.faults first c.args.setup.now (g.I.Source.left c.args.input.now)
-    (g.O.Sink.written c.args.output.now) c.lines.nodes c.lines.told.takers (ahead c.lines.lines (g.I.Source.left c.lines.input))
-    (g.O.Sink.written c.lines.output) (g.O.Sink.written c.write_all.new.out) c.lines.served c.lines.told.text
+    let at = streams g.I.Source.left g.I.Source.faults g.O.Sink.written g.O.Sink.faults in
+    let sink = sink_state g.O.Sink.written g.O.Sink.faults in
+    rw c.clear.ensures (lines-end given disk.tells disk.past disk.faults first c.args.setup.now (at c.args.input.now c.args.output.now) c.lines.nodes c.lines.told.takers (ahead c.lines.lines (g.I.Source.left c.lines.input))
+    (sink c.lines.output) (at c.next_line.new.input c.write_all.new.out) c.lines.served c.lines.told.text
     c.text.result.now (c.lines.invariant.going given first opened) c.text.ensures c.in_default.ensures.ok c.next_line.new.lines
-    (g.I.Source.left c.next_line.new.input) (rw c.in-Ok-None.field-0-is at c.in-Ok-None.ensures.end)
+    (rw c.in-Ok-None.field-0-is at c.in-Ok-None.ensures.end)
     (rw c.in-Ok-None.field-0-is at c.in-Ok-None.ensures.stays)))
 
 pub returns-in-Err-Failed-clause-cause : goal.returns-in-Err-Failed-clause-cause
 returns-in-Err-Failed-clause-cause g c = λ given first opened.
     (let disk = g.Y.Disk.NodeDisk in
+    let at = streams g.I.Source.left g.I.Source.faults g.O.Sink.written g.O.Sink.faults in
+    let sink = sink_state g.O.Sink.written g.O.Sink.faults in
     let faults = g.I.Source.faults in
     let cause = rw c.in-Err-Failed.field-0-is at c.in-Err-Failed.ensures.cause in (
       Rose_earlier (faults c.args.input.now) (faults c.lines.input) (faults c.next_line.new.input)
           c.lines.invariant.source_later cause.0,
-      rw c.clear.ensures (lines-fail given disk.tells disk.past disk.faults first c.args.setup.now (g.I.Source.left c.args.input.now)
-          (g.O.Sink.written c.args.output.now) c.lines.nodes c.lines.told.takers (ahead c.lines.lines (g.I.Source.left c.lines.input))
-          (g.O.Sink.written c.lines.output) (g.O.Sink.written c.write_all.new.out) c.lines.served c.lines.told.text
-          c.text.result.now (c.lines.invariant.going given first opened) c.text.ensures c.in_default.ensures.ok
-          (g.I.Source.left c.next_line.new.input) cause.1),
+      rw c.clear.ensures (lines-fail given disk.tells disk.past disk.faults first c.args.setup.now (at c.args.input.now c.args.output.now) c.lines.nodes c.lines.told.takers (ahead c.lines.lines (g.I.Source.left c.lines.input))
+          (sink c.lines.output) (at c.next_line.new.input c.write_all.new.out) c.lines.served c.lines.told.text
+          c.text.result.now (c.lines.invariant.going given first opened) c.text.ensures c.in_default.ensures.ok cause.1),
     ))
 
 pub returns-in-Err-TooLong-clause-cause : goal.returns-in-Err-TooLong-clause-cause
 returns-in-Err-TooLong-clause-cause g c = λ given first opened.
     (let disk = g.Y.Disk.NodeDisk in
+    let at = streams g.I.Source.left g.I.Source.faults g.O.Sink.written g.O.Sink.faults in
+    let sink = sink_state g.O.Sink.written g.O.Sink.faults in
     let yards = g.Y.Yard.faults in
     let long = rw c.in-Err-TooLong.field-0-is at c.in-Err-TooLong.ensures.cause in
-    rw c.clear.ensures (lines-pass given disk.tells disk.past disk.faults first c.args.setup.now (g.I.Source.left c.args.input.now)
-    (g.O.Sink.written c.args.output.now) c.lines.nodes c.lines.told.takers (ahead c.lines.lines (g.I.Source.left c.lines.input))
-    (g.O.Sink.written c.lines.output) (g.O.Sink.written c.write_all.new.out) c.lines.served c.lines.told.text
+    rw c.clear.ensures (lines-pass given disk.tells disk.past disk.faults first c.args.setup.now (at c.args.input.now c.args.output.now) c.lines.nodes c.lines.told.takers (ahead c.lines.lines (g.I.Source.left c.lines.input))
+    (sink c.lines.output) (at c.next_line.new.input c.write_all.new.out) c.lines.served c.lines.told.text
     c.text.result.now (c.lines.invariant.going given first opened) c.text.ensures c.in_default.ensures.ok (yards c.args.yard.now)
-    (yards c.lines.yard) (g.I.Source.left c.next_line.new.input) c.refuse_long_line.result c.lines_law.ensures long.1
+    (yards c.lines.yard) c.refuse_long_line.result c.lines_law.ensures long.1
     c.in-Err-TooLong.ensures.read (c.refuse_long_line.ensures c.args.setup.now)))
 
 pub returns-in-Err-Memory-clause-cause : goal.returns-in-Err-Memory-clause-cause
 returns-in-Err-Memory-clause-cause g c = λ given first opened.
     (let disk = g.Y.Disk.NodeDisk in
-    lines-starve given disk.tells disk.past disk.faults first c.args.setup.now (g.I.Source.left c.args.input.now)
-    (g.O.Sink.written c.args.output.now) c.lines.nodes c.lines.told.takers (ahead c.lines.lines (g.I.Source.left c.lines.input))
-    (g.O.Sink.written c.lines.output) (g.O.Sink.written c.write_all.new.out) c.lines.served c.lines.told.text
+    let at = streams g.I.Source.left g.I.Source.faults g.O.Sink.written g.O.Sink.faults in
+    let sink = sink_state g.O.Sink.written g.O.Sink.faults in
+    lines-starve given disk.tells disk.past disk.faults first c.args.setup.now (at c.args.input.now c.args.output.now) c.lines.nodes c.lines.told.takers (ahead c.lines.lines (g.I.Source.left c.lines.input))
+    (sink c.lines.output) (at c.next_line.new.input c.write_all.new.out) c.lines.served c.lines.told.text
     c.text.result.now (c.lines.invariant.going given first opened) c.text.ensures c.in_default.ensures.ok
-    (g.I.Source.left c.next_line.new.input) c.in-Err-Memory.ensures.read)
+    c.in-Err-Memory.ensures.read)
 
 pub answer-requires-clause-holds : goal.answer-requires-clause-holds
 answer-requires-clause-holds g c =
@@ -92,17 +98,17 @@ answer-requires-clause-holds g c =
 pub returns-in-Err-answer-clause-cause : goal.returns-in-Err-answer-clause-cause
 returns-in-Err-answer-clause-cause g c = λ given first opened.
     (let disk = g.Y.Disk.NodeDisk in
+    let at = streams g.I.Source.left g.I.Source.faults g.O.Sink.written g.O.Sink.faults in
+    let sink = sink_state g.O.Sink.written g.O.Sink.faults in
     let now = ahead c.lines.lines (g.I.Source.left c.lines.input) in
     let next = ahead c.next_line.new.lines (g.I.Source.left c.next_line.new.input) in
     let yards = g.Y.Yard.faults in
     let so = (c.lines.invariant.going given first opened) in
     let takes : TakesLine now next c.as_slice.result.now = subst (TakesLine now next) (sym c.as_slice.ensures)
     (rw c.in-Ok-Some.field-0-is at c.in-Ok-Some.ensures.line) in
-    lines-stop given disk.tells disk.past disk.faults first c.args.setup.now (g.I.Source.left c.args.input.now)
-    (g.O.Sink.written c.args.output.now) c.lines.nodes c.lines.told.takers now (g.O.Sink.written c.lines.output)
-    (g.O.Sink.written c.write_all.new.out) c.lines.served c.lines.told.text c.text.result.now so c.text.ensures
-    c.in_default.ensures.ok _ _ (yards c.args.yard.now) (yards c.lines.yard) (yards c.answer.new.yard) c.from.result
-    c.in-Err-answer.stop next (g.I.Source.left c.next_line.new.input) c.as_slice.result.now c.answer.new.told.takers
+    lines-stop given disk.tells disk.past disk.faults first c.args.setup.now (at c.args.input.now c.args.output.now) c.lines.nodes c.lines.told.takers now (sink c.lines.output) (at c.next_line.new.input c.write_all.new.out) c.lines.served c.lines.told.text c.text.result.now so c.text.ensures
+    c.in_default.ensures.ok (yards c.args.yard.now) (yards c.lines.yard) (yards c.answer.new.yard) c.from.result
+    c.in-Err-answer.stop next c.as_slice.result.now c.answer.new.told.takers
     c.lines.invariant.yard_later c.lines_law.ensures takes c.in-Ok-Some.ensures.read
     (c.in-Err-answer.ensures.cause given first so.run so.lines
     (subst (λ (t : Takers). HoldsAll given disk.tells disk.past disk.faults c.args.setup.now first c.lines.nodes t so.run)
@@ -116,6 +122,8 @@ returns-in-Err-answer-clause-cause g c = λ given first opened.
 pub lines-preserved : goal.lines-preserved
 lines-preserved g c =
     let disk = g.Y.Disk.NodeDisk in
+    let at = streams g.I.Source.left g.I.Source.faults g.O.Sink.written g.O.Sink.faults in
+    let sink = sink_state g.O.Sink.written g.O.Sink.faults in
     let now = ahead c.lines.lines (g.I.Source.left c.lines.input) in
     let next = ahead c.next_line.new.lines (g.I.Source.left c.next_line.new.input) in
     let takes : TakesLine now next c.as_slice.result.now = subst (TakesLine now next) (sym c.as_slice.ensures)
@@ -123,9 +131,7 @@ lines-preserved g c =
     record {
       going = λ given first opened. (let so = c.lines.invariant.going given first opened in
           lines-go-on given disk.tells disk.past disk.faults first c.args.setup.now
-          (g.I.Source.left c.args.input.now)
-          (g.O.Sink.written c.args.output.now) c.lines.nodes c.lines.told.takers now (g.O.Sink.written c.lines.output)
-          (g.O.Sink.written c.write_all.new.out) c.lines.served c.lines.told.text c.text.result.now so
+          (at c.args.input.now c.args.output.now) c.lines.nodes c.lines.told.takers now (sink c.lines.output) (at c.next_line.new.input c.write_all.new.out) c.lines.served c.lines.told.text c.text.result.now so
           c.text.ensures c.in_default.ensures.ok c.answer.new.nodes c.answer.new.told.takers next
           c.as_slice.result.now c.clear.new.self c.answer.new.told c.lines_law.ensures takes
           (ap (λ (o : Outcome). o.text) c.clear.ensures)

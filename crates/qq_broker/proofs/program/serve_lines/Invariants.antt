@@ -1,5 +1,6 @@
 use Rattle.std.proofs.Common.{◌≤◌, ◌-◌, []}
 use Rattle.qq_ports.specs.Lines.{ahead}
+use Rattle.qq_ports.specs.Streams.{sink_state}
 use Rattle.qq_taker.specs.Takers.{Takers}
 use Rattle.qq_cluster_run.specs.declared.ending.TheConstants.{LINES_LIMIT}
 use Rattle.qq_cluster_run.specs.Service.{HasOpened}
@@ -20,7 +21,8 @@ invariant-lines g l = record {
       → LoopsOn (RunHad given g.Y.Disk.NodeDisk.tells g.Y.Disk.NodeDisk.past g.Y.Disk.NodeDisk.faults first) l.setup
       (HoldsAll given g.Y.Disk.NodeDisk.tells g.Y.Disk.NodeDisk.past g.Y.Disk.NodeDisk.faults l.setup first l.nodes
       l.told.takers) (g.I.Source.left l.fn.input) (ahead l.lines (g.I.Source.left l.input))
-      (g.O.Sink.written l.fn.output) (g.O.Sink.written l.output) l.served l.told.text;
+      (sink_state g.O.Sink.written g.O.Sink.faults l.fn.output) (sink_state g.O.Sink.written g.O.Sink.faults l.output)
+      l.served l.told.text;
   within : l.served ≤ LINES_LIMIT;
   source_later : g.I.Source.faults l.fn.input ≤ g.I.Source.faults l.input;
   sink_later : g.O.Sink.faults l.fn.output ≤ g.O.Sink.faults l.output;

@@ -1,4 +1,5 @@
 use Rattle.std.proofs.lemmas.Option.{IfSome_then}
+use Rattle.qq_ports.specs.Streams.{sink_state, streams}
 use Rattle.qq_cluster_run.proofs.Closings.{Rose_earlier}
 use Rattle.qq_cluster_run.proofs.Looping.{served_done, served_breaks}
 use Rattle.qq_broker.specs.Takers.{HoldsAll, RunClaims}
@@ -12,42 +13,43 @@ write_audits-requires-clause-holds g c =
 pub returns-in-Ok-write_audits-clause-ok : goal.returns-in-Ok-write_audits-clause-ok
 returns-in-Ok-write_audits-clause-ok g c = λ given first opened.
     (let disk = g.Y.Disk.NodeDisk in
-    let written = g.O.Sink.written in
+    let at = streams g.I.Source.left g.I.Source.faults g.O.Sink.written g.O.Sink.faults in
+    let sink = sink_state g.O.Sink.written g.O.Sink.faults in
     let s = c.args.setup.now in
     let so = c.in-Ok.ensures.ok given first opened in
     served_done (RunClaims given disk.tells disk.past disk.faults first c.serve_lines.new.told.takers) s
     (HoldsAll given disk.tells disk.past disk.faults s first c.serve_lines.new.nodes c.serve_lines.new.told.takers)
-    (g.I.Source.left c.args.input.now) (g.I.Source.left c.serve_lines.new.input) (written c.args.output.now)
-    (written c.serve_lines.new.output) (written c.write_audits.new.output) so
+    (at c.args.input.now c.args.output.now) (at c.serve_lines.new.input c.write_audits.new.output)
+    (sink c.serve_lines.new.output) so
     (c.in-Ok-write_audits.ensures.ok given so.run so.stands.holds) so.stands.seen)
 
 pub returns-in-Err-Failed-clause-cause : goal.returns-in-Err-Failed-clause-cause
 returns-in-Err-Failed-clause-cause g c = λ given first opened.
     (let disk = g.Y.Disk.NodeDisk in
-    let written = g.O.Sink.written in
+    let at = streams g.I.Source.left g.I.Source.faults g.O.Sink.written g.O.Sink.faults in
+    let sink = sink_state g.O.Sink.written g.O.Sink.faults in
     let faults = g.O.Sink.faults in
     let s = c.args.setup.now in
     let so = c.in-Ok.ensures.ok given first opened in
     let cause = rw c.in-Err-Failed.field-0-is at c.in-Err-Failed.ensures.cause in (
       Rose_earlier (faults c.args.output.now) (faults c.serve_lines.new.output) (faults c.write_audits.new.output)
-          c.in-Ok.ensures.sink_later cause,
+          c.in-Ok.ensures.later.1 cause,
       served_breaks (RunClaims given disk.tells disk.past disk.faults first c.serve_lines.new.told.takers) s
           (HoldsAll given disk.tells disk.past disk.faults s first c.serve_lines.new.nodes c.serve_lines.new.told.takers)
-          (g.I.Source.left c.args.input.now)
-          (g.I.Source.left c.serve_lines.new.input) (written c.args.output.now) (written c.serve_lines.new.output)
-          (written c.write_audits.new.output) so (c.in-Err-Failed.ensures.err given so.run so.stands.holds) so.stands.seen,
+          (at c.args.input.now c.args.output.now) (at c.serve_lines.new.input c.write_audits.new.output)
+          (sink c.serve_lines.new.output) so (c.in-Err-Failed.ensures.err given so.run so.stands.holds) so.stands.seen,
     ))
 
 pub returns-in-Ok-clause-cause : goal.returns-in-Ok-clause-cause
 returns-in-Ok-clause-cause g c = λ given first opened.
     (let disk = g.Y.Disk.NodeDisk in
-    let written = g.O.Sink.written in
+    let at = streams g.I.Source.left g.I.Source.faults g.O.Sink.written g.O.Sink.faults in
+    let sink = sink_state g.O.Sink.written g.O.Sink.faults in
     let s = c.args.setup.now in
     let so = c.in-Ok.ensures.ok given first opened in
     IfSome_then (g.I.Source.left c.args.input.now)
     (served_breaks (RunClaims given disk.tells disk.past disk.faults first c.serve_lines.new.told.takers) s
     (HoldsAll given disk.tells disk.past disk.faults s first c.serve_lines.new.nodes c.serve_lines.new.told.takers)
-    (g.I.Source.left c.args.input.now)
-    (g.I.Source.left c.serve_lines.new.input) (written c.args.output.now) (written c.serve_lines.new.output)
-    (written c.write_audits.new.output) so (c.in-Err-NoMemory.ensures.err given so.run so.stands.holds) so.stands.seen)
+    (at c.args.input.now c.args.output.now) (at c.serve_lines.new.input c.write_audits.new.output)
+    (sink c.serve_lines.new.output) so (c.in-Err-NoMemory.ensures.err given so.run so.stands.holds) so.stands.seen)
     (λ bytes cut. cut.breaks))

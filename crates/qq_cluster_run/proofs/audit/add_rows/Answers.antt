@@ -2,12 +2,13 @@ use Rattle.std.proofs.Common.{◌++◌, List, Option, length, flat_map, ap, subs
 use Rattle.qq_entry.specs.declared.audit.AuditRow.{AuditRow}
 use Rattle.qq_script.specs.Audit.{row_text}
 use Rattle.qq_cluster_run.specs.Pieces.{IsNextRow}
+use Rattle.qq_ports.specs.Streams.{sink_state}
 use Rattle.qq_cluster_run.proofs.Pieces.{next_row, join, some_next}
 use Rattle.qq_cluster_run.proofs.audit.add_rows.Goals as goal
 
 pub returns-in-Err-add_row-clause-err : goal.returns-in-Err-add_row-clause-err
 returns-in-Err-add_row-clause-err g c =
-    let written = g.O.Sink.written in
+    let written = sink_state g.O.Sink.written g.O.Sink.faults in
     let left = g.R.Rows.left in
     let row = c.in-Ok-Some.row in
     let text = c.args.text.now.items ++ flat_map row_text (left c.args.rows.now) in
@@ -20,7 +21,7 @@ returns-in-Err-add_row-clause-err g c =
 
 pub rows-preserved : goal.rows-preserved
 rows-preserved g c =
-    let written = g.O.Sink.written in
+    let written = sink_state g.O.Sink.written g.O.Sink.faults in
     let left = g.R.Rows.left in
     let row = c.in-Ok-Some.row in
     let text = c.args.text.now.items ++ flat_map row_text (left c.args.rows.now) in

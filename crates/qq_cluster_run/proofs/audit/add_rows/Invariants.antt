@@ -1,5 +1,6 @@
 use Rattle.std.proofs.Common.{◌≡◌, ◌≤◌, ◌+◌, ◌++◌, flat_map, length}
 use Rattle.qq_script.specs.Audit.{row_text}
+use Rattle.qq_ports.specs.Streams.{sink_state}
 use Rattle.qq_cluster_run.specs.Pieces.{HasPrefix}
 use Rattle.qq_cluster_run.proofs.audit.add_rows.Given as goal
 
@@ -7,7 +8,8 @@ use Rattle.qq_cluster_run.proofs.audit.add_rows.Given as goal
 abbrev pub invariant-rows : goal.invariant-rows
 invariant-rows g l = record {
   so :
-      HasPrefix (g.O.Sink.written l.fn.output) (g.O.Sink.written l.output)
+      HasPrefix (sink_state g.O.Sink.written g.O.Sink.faults l.fn.output)
+      (sink_state g.O.Sink.written g.O.Sink.faults l.output)
       (l.fn.text.items ++ flat_map row_text (g.R.Rows.left l.fn.rows))
       (l.text.items ++ flat_map row_text (g.R.Rows.left l.rows));
   left : l._at + length (g.R.Rows.left l.rows) ≡ l.count;

@@ -1,4 +1,5 @@
 use Rattle.std.proofs.Common.{List, ℕ, subst}
+use Rattle.qq_ports.specs.Streams.{shelf_state}
 use Rattle.qq_setup.specs.Setup.{state_of}
 use Rattle.qq_defs.specs.Definitions.{document, read_setup as read_definitions}
 use Rattle.qq_defs.specs.Reading.{Fails}
@@ -13,7 +14,8 @@ returns-in-Ok-read-clause-runs g c =
 
 pub returns-clause-cause : goal.returns-clause-cause
 returns-clause-cause g c =
-    refused c.args.name.now (g.S.Shelf.files c.args.shelf.now) _ c.args.options.now c.in-Ok.bytes.items c.in-Err.fault
+    refused c.args.name.now (shelf_state g.S.Shelf.files g.S.Shelf.faults c.args.shelf.now)
+    (shelf_state g.S.Shelf.files g.S.Shelf.faults c.fetch.new.self) c.args.options.now c.in-Ok.bytes.items c.in-Err.fault
     c.refused_export.result c.in-Ok.ensures.ok
     (subst (λ (bytes : List ℕ). Fails c.in-Err.fault (read_export c.args.options.now bytes)) c.as_slice.ensures.value
     (subst (λ (nodes : ℕ). Fails c.in-Err.fault
