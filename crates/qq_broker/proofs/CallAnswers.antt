@@ -1,8 +1,10 @@
--- What a call answers is true of its queue's audit, and a command is given to a ready leader.
+-- What a call answers is true of its queue's audit, a command is given to a ready leader, and a call is a line.
 use Rattle.std.proofs.Common.{◌≡◌, ℕ, Bool, true, false, List, [], ◌∷◌, ◌++◌, Option, None, Some, refl, sym, ap, subst, ◌∙◌}
 use Rattle.std.specs.Prelude.{Contains, Err, filter, filter_map, if◌then◌else◌}
 use Rattle.std.specs.List.{AllByRecursion, cons_option}
-use Rattle.std.proofs.lemmas.Bool.{eqb-true}
+use Rattle.std.proofs.lemmas.Bool.{eqb-true, false≢true}
+use Rattle.qq_base.specs.declared.ids.QueueId.{QueueId}
+use Rattle.qq_base.specs.declared.ids.SessionId.{SessionId}
 use Rattle.qq_base.proofs.Lists.{AllByRecursion-in}
 use Rattle.qq_entry.specs.Command.{stamp}
 use Rattle.qq_entry.specs.declared.answer.Answer.TheVariants.{Confirmed}
@@ -13,6 +15,7 @@ use Rattle.qq_entry.specs.declared.command.Unstamped.{Unstamped}
 use Rattle.qq_model.specs.Audit.{effects_of}
 use Rattle.qq_model.specs.State.{empty_queue}
 use Rattle.qq_model.proofs.Soundness.{in_contains}
+use Rattle.qq_script_lines.specs.declared.line.ScriptLine.TheVariants.{Client}
 use Rattle.qq_session.specs.Clients.{may_hand}
 use Rattle.qq_session.specs.ExactlyOne.{ExactlyOne}
 use Rattle.qq_session.specs.Printed.{IsConfirmedPublish}
@@ -24,12 +27,13 @@ use Rattle.qq_taker.specs.declared.heard.What.{What}
 use Rattle.qq_taker.specs.declared.heard.What.TheVariants.{Answer, Delivery, Refused}
 use Rattle.qq_cluster.specs.Cluster.{At, Cluster, ClusterEvent, Of, Printed, Setup, all_prints, cluster_after, new_cluster}
 use Rattle.qq_cluster.specs.ClusterLaws.{HasGroups, IsTrueOf, PrintsWhatIsTrue}
+use Rattle.qq_cluster.specs.Lines.{IsLine}
 use Rattle.qq_cluster.specs.Outcome.{all_heard, delivery_in, delivery_told}
 use Rattle.qq_cluster.specs.Queue.{Queue, Submits, TellsEnded, audit_rows, has_leader}
-use Rattle.qq_cluster.specs.Rules.{Is, IsClaimed, IsGiven, if_so, is_ended, not_taken}
+use Rattle.qq_cluster.specs.Rules.{Is, IsClaimed, IsGiven, IsNothing, IsPump, if_so, is_ended, not_taken}
 use Rattle.qq_cluster.proofs.Outcomes.{prints-both}
 use Rattle.qq_cluster_run.specs.Serving.{after_all}
-use Rattle.qq_broker.specs.Calling.{Answers, claimed_by, handed_to, heard_after, is_heard_at, outcome_at, outcome_heard, row_told}
+use Rattle.qq_broker.specs.Calling.{Answers, IsCall, claimed_by, handed_to, heard_after, is_heard_at, outcome_at, outcome_heard, row_told}
 use Rattle.qq_broker.specs.declared.calling.Called.{Called}
 
 -- ---- what is heard is true
@@ -215,3 +219,40 @@ pub outcome-given : (setup : Setup) (c : Cluster) (session place : ℕ) (body : 
     → Answers setup c place early late called → called.outcome ≡ outcome_at (c.queue place) session body
 outcome-given setup c session place body early late called given' so =
     so.outcome ∙ given-heard setup c session place body early given'
+
+-- ---- a call as a line
+
+-- a command that is given leaves the pace as it is
+given-auto : (setup : Setup) (c : Cluster) (session place : ℕ) (body : Unstamped) (events : List ClusterEvent)
+    → IsGiven session body place c events → (cluster_after c events).auto ≡ c.auto
+given-auto setup c session place body events = by (is_ended session (c.queue place))
+  where
+    claimed : (o : Option ℕ) → IsClaimed o session body place c events → (cluster_after c events).auto ≡ c.auto
+    claimed None is = ap (λ (l : List ClusterEvent). (cluster_after c l).auto) is
+    claimed (Some id) is = ap (λ (l : List ClusterEvent). (cluster_after c l).auto) is
+
+    by : (b : Bool)
+        → if_so b (Is (At place (TellsEnded session)))
+        (IsClaimed (not_taken session body (c.queue place)) session body place) c events
+        → (cluster_after c events).auto ≡ c.auto
+    by true is = ap (λ (l : List ClusterEvent). (cluster_after c l).auto) is
+    by false so = claimed (not_taken session body (c.queue place)) so
+
+pumped-if : (b : Bool) (setup : Setup) (c : Cluster) (events : List ClusterEvent) → b ≡ true → IsPump setup c events
+    → if_so b (IsPump setup) IsNothing c events
+pumped-if true setup c events is so = so
+pumped-if false setup c events is so = absurd (false≢true is)
+
+-- what a call allows the line of its command does, where a pump follows each line
+pub call-line : (setup : Setup) (c : Cluster) (session : SessionId) (queue : QueueId) (body : Unstamped)
+    (more : List ClusterEvent) → IsCall setup session.number body queue.0 c more → c.auto ≡ true
+    → IsLine setup (Client session queue body) c more
+unfolding IsLine
+call-line setup c session queue body more so auto = record {
+  early = so.early;
+  late = so.late;
+  is = so.is;
+  first = so.first;
+  second = pumped-if (cluster_after c so.early).auto setup (cluster_after c so.early) so.late
+      (given-auto setup c session.number queue.0 body so.early so.first ∙ auto) so.second;
+}

@@ -21,6 +21,7 @@ pub mod Looped
 pub mod Closed
 pub mod Calls
 pub mod CallAnswers
+pub mod CallWorked
 pub mod DrillAudits
 pub mod DrillEnds
 pub mod DrillLoops

@@ -23,7 +23,10 @@ mod stopping;
 mod taker_laws;
 
 pub use broker::{Audits, Broker, Pumped};
-pub use call_laws::{a_call_answers_what_is_true, a_call_is_given_to_a_ready_leader};
+pub use call_laws::{
+    a_call_answers_what_is_true, a_call_is_given_to_a_ready_leader,
+    a_call_is_the_line_of_its_command, a_worked_call_is_answered,
+};
 pub use calling::Called;
 pub use disk_laws::{
     a_crash_leaves_the_named_image, a_given_disk_was_just_opened,
