@@ -21,7 +21,8 @@ lines_before =
     ∷ []
 
 abbrev pub before_the_call : Cluster
-before_the_call = cluster_after (new_cluster two_queues) (run two_queues all_given lines_before (new_cluster two_queues))
+before_the_call =
+    cluster_after (new_cluster two_queues) (run two_queues all_given lines_before (new_cluster two_queues))
 
 -- it publishes to the first queue
 abbrev pub called_with : Unstamped

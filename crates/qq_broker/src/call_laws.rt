@@ -1,4 +1,5 @@
-//! What the answers of calls tell, as laws: the functions do nothing, and their contracts are the laws.
+//! What the answers of calls tell, as laws: the functions do nothing, and their contracts are the
+//! laws.
 ghost use Rattle.std.specs.Prelude.{◌≡◌, ◌++◌, ◌∷◌, [], ℕ, true, List, Ok, Some, Contains, map};
 ghost use Rattle.qq_base.specs.declared.ids.QueueId.{QueueId};
 ghost use Rattle.qq_base.specs.declared.ids.SessionId.{SessionId};
@@ -36,8 +37,8 @@ use qq_disk::NodeDisk;
 /// A law: what a call answers is true of its queue's audit after it.
 ///
 /// - `rows`: each row is one of the audit.
-/// - `confirmed`: of one that says `confirmed` the audit has one row in which a publish of that session and number was
-///   carried out and confirmed, and no second one.
+/// - `confirmed`: of one that says `confirmed` the audit has one row in which a publish of that
+///   session and number was carried out and confirmed, and no second one.
 /// - `effects`: each delivery is what an entry of the audit delivered.
 pub fn a_call_answers_what_is_true()
     ensures rows { (setup : Setup) (events early late : List ClusterEvent) (place : ℕ)
@@ -62,9 +63,9 @@ pub fn a_call_answers_what_is_true()
     a_cluster_prints_what_is_true();
 }
 
-/// A law: a call's command is given to the queue's leader exactly where the session hasn't ended, each delivery that the
-/// command ends was handed out, the session's window has room, and a leader is ready. The first of these that fails is
-/// the reason that is told.
+/// A law: a call's command is given to the queue's leader exactly where the session hasn't ended,
+/// each delivery that the command ends was handed out, the session's window has room, and a leader
+/// is ready. The first of these that fails is the reason that is told.
 pub fn a_call_is_given_to_a_ready_leader()
     ensures { (setup : Setup) (c : Cluster) (session place : ℕ) (body : Unstamped)
         (early late : List ClusterEvent) (called : Called) →
@@ -74,7 +75,8 @@ pub fn a_call_is_given_to_a_ready_leader()
 
 /// A law: of a broker that was called.
 ///
-/// - `line`: where a pump follows each line of a client, what happened is what the line of its command allows.
+/// - `line`: where a pump follows each line of a client, what happened is what the line of its
+///   command allows.
 /// - `takers`: they have seen what that shows, and who listened to them before has heard nothing.
 pub fn a_call_is_the_line_of_its_command<D: NodeDisk>()
     ensures line { (given : Giving D) (old new : Broker D) (run : Run) (session : SessionId)
@@ -90,9 +92,9 @@ pub fn a_call_is_the_line_of_its_command<D: NodeDisk>()
         (cluster_in old.setup run) so.more before) }
 {}
 
-/// A law: a worked call, over one node with two queues. Session 1 has a consumer at the first queue, and its message to
-/// the second one waits for a pump. It publishes to the first queue: that is confirmed by row 3 and delivered to the
-/// consumer, and of the second queue an answer is heard.
+/// A law: a worked call, over one node with two queues. Session 1 has a consumer at the first
+/// queue, and its message to the second one waits for a pump. It publishes to the first queue: that
+/// is confirmed by row 3 and delivered to the consumer, and of the second queue an answer is heard.
 pub fn a_worked_call_is_answered()
     ensures outcome { (called : Called) →
         Answers two_queues before_the_call 1 as_it_is_given in_the_pump called →

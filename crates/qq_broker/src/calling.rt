@@ -1,4 +1,5 @@
-//! A client's command at one queue, answered with data and not with text; and what a queue's leader has.
+//! A client's command at one queue, answered with data and not with text; and what a queue's leader
+//! has.
 ghost use Rattle.std.specs.Prelude.{◌≡◌, ◌<◌, ◌∷◌, [], List, Option, Some, IfErr, IfOk, IsOkUnless, OnOk};
 ghost use Rattle.qq_cluster.specs.Counts.{counts};
 ghost use Rattle.qq_cluster.specs.Rules.{IsGiven, IsPump, is_idle};
@@ -39,7 +40,8 @@ pub struct Called {
 }
 
 impl Called {
-    // What is heard is added where it belongs. A command that a queue refuses its takers is no answer of the queue.
+    // What is heard is added where it belongs. A command that a queue refuses its takers is no
+    // answer of the queue.
     fn add(&mut self, queue: QueueId, heard: Heard) -> Result<(), Memory>
         ensures ok { OnOk result (Sorts queue.0 (heard ∷ []) self.old self.new) }
         ensures want { IsOkUnless result Memory.Want }
@@ -196,14 +198,14 @@ fn hear_call<D: NodeDisk, T: Taker>(
 }
 
 impl<D: NodeDisk> Broker<D> {
-    /// Gives a client's command to its queue, and makes rounds until nothing is left to do, 10,000 at most, whatever
-    /// the pace. The command gets the next number of its session at the queue.
+    /// Gives a client's command to its queue, and makes rounds until nothing is left to do, 10,000
+    /// at most, whatever the pace. The command gets the next number of its session at the queue.
     ///
-    /// These takers see what is handed out to their consumers. Nothing of the call is printed, and who listened to the
-    /// takers before hears nothing of it.
+    /// These takers see what is handed out to their consumers. Nothing of the call is printed, and
+    /// who listened to the takers before hears nothing of it.
     ///
-    /// - `ok`: what happened is that the command was given, and what the line `pump` allows; the answer is what a
-    ///   listener hears of both.
+    /// - `ok`: what happened is that the command was given, and what the line `pump` allows; the
+    ///   answer is what a listener hears of both.
     /// - `heard`, `text`: at an error too.
     /// - `cause`: there was no memory, or in the midst of it a number stands at its end.
     pub fn call<T: Taker>(
@@ -233,15 +235,22 @@ impl<D: NodeDisk> Broker<D> {
         let mut text = Vec::new(alloc);
         let before = takers.hear_on(Some(Vec::new(alloc)));
         let mut told = lend(alloc, &mut text, takers);
-        let called = hear_call(alloc, &mut self.nodes, queue, session.number, body, &mut told);
+        let called = hear_call(
+            alloc,
+            &mut self.nodes,
+            queue,
+            session.number,
+            body,
+            &mut told,
+        );
         give_back(told, &mut text, takers);
         drop(text);
         drop(takers.hear_on(before));
         called
     }
 
-    /// How many messages are ready at a queue's leader, and how many of its consumers weren't cancelled. None exactly
-    /// where no leader is ready.
+    /// How many messages are ready at a queue's leader, and how many of its consumers weren't
+    /// cancelled. None exactly where no leader is ready.
     pub fn counts(&self, queue: QueueId) -> Option<(u64, u32)>
         requires { (given : Giving D) × ((run : Run)
             × Runs given D.tells D.past D.faults self.now run

@@ -7,7 +7,8 @@ returns-clause-rows c = λ setup events early late place called row groups so th
 
 pub returns-clause-confirmed : goal.returns-clause-confirmed
 returns-clause-confirmed c = λ setup events early late place called row stamp groups so there is answer.
-    row-once c.a_cluster_prints_what_is_true.ensures setup events early late place called groups so row stamp there is answer
+    row-once c.a_cluster_prints_what_is_true.ensures setup events early late place called groups so row stamp there is
+    answer
 
 pub returns-clause-effects : goal.returns-clause-effects
 returns-clause-effects c = λ setup events early late place called handed groups so there.
