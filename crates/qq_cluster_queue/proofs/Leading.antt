@@ -1,5 +1,5 @@
 -- What the leader's machine counts is what the definition counts.
-use Rattle.std.proofs.Common.{◌≡◌, ℕ, ◌+◌, ◌×◌, ◌-◌, ◌^◌, Bool, true, cond, List, length, map, Option, Some, None, refl, sym, ap, ◌∙◌}
+use Rattle.std.proofs.Common.{◌≡◌, ℕ, ◌+◌, ◌-◌, ◌^◌, Bool, true, cond, List, length, map, Option, Some, None, refl, sym, ap, ◌∙◌}
 use Rattle.std.specs.Prelude.{count_by, is_none, min, not}
 use Rattle.std.specs.Option.{option_map}
 use Rattle.std.proofs.lemmas.List.Folds.{fold-map}
@@ -74,16 +74,18 @@ counts-of known committed reads sessions d q node s st leads up =
     ∙ ap (option_map (counts_by q.args)) (sym (ap (λ (o : Option ℕ). server_in o q.group) lead ∙ seat))
 
 pub counts-are : AreKnown → AreCommitted → PartsRead → (sessions : Standings) (d : ClusterQueue) (q : Queue)
-    (m : MachineQueue) (found : ℕ × ℕ) → Stands sessions d q
-    → Some m ≡ machine_of (leader_of own_log d.group) d.group → found.0 ≡ length (ready_items m.machine)
-    → found.1 ≡ min (count_by is_current m.machine.served) (2 ^ 32 - 1) → Some found ≡ counts q
-counts-are known committed reads sessions d q m found st there ready consumers =
+    (m : MachineQueue) (parts : Parts) (found : ℕ × ℕ) → Stands sessions d q
+    → Some m ≡ machine_of (leader_of own_log d.group) d.group → parts ≡ m.machine
+    → found.0 ≡ length (ready_items parts) → found.1 ≡ min (count_by is_current parts.served) (2 ^ 32 - 1)
+    → Some found ≡ counts q
+counts-are known committed reads sessions d q m parts found st there own ready consumers =
     by (leader_of own_log d.group) refl there
   where
     pair : found ≡ counted_in m.machine
     pair =
         ap (λ (n : ℕ). let p : ℕ × ℕ = (n, found.1) in p) ready
-        ∙ ap (λ (n : ℕ). let p : ℕ × ℕ = (length (ready_items m.machine), n) in p) consumers
+        ∙ ap (λ (n : ℕ). let p : ℕ × ℕ = (length (ready_items parts), n) in p) consumers
+        ∙ ap counted_in own
 
     by : (o : Option NodeId) → leader_of own_log d.group ≡ o → Some m ≡ machine_of o d.group → Some found ≡ counts q
     by None leads is = absurd (let e : ◌≡◌ {A = Option MachineQueue} (Some m) None = is in cc)
