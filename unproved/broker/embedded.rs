@@ -1,15 +1,15 @@
 //! A check of brokers over disks that a program hands in.
 
+use crate::runs::four_takers;
 use anyhow::{Result, bail, ensure};
 use cases::{Trials, run_each};
 use qq_base::QueueId;
-use crate::runs::four_takers;
 use qq_broker::{Broker, Pumped, StepFault, open_disks, reopen_disks, step};
 use qq_mem_disk::MemDisk;
 use qq_ports::MemYard;
 use qq_script_lines::{Place, parse_line};
 use qq_setup::Setup;
-use qq_taker::{Desk, FixedTaker};
+use qq_taker::{Desk, Taker};
 
 /// A line stands in no client's section.
 const PLACE: Place = Place {
@@ -19,10 +19,10 @@ const PLACE: Place = Place {
 };
 
 /// What a broker answers to lines.
-fn serve(
+pub fn serve<T: Taker>(
     rt: HostRuntime,
     broker: &mut Broker<MemDisk>,
-    takers: &mut Desk<FixedTaker>,
+    takers: &mut Desk<T>,
     lines: &[&str],
 ) -> Result<String> {
     let alloc = rt.alloc();
@@ -40,21 +40,37 @@ fn serve(
     Ok(text)
 }
 
-fn setup(rt: HostRuntime) -> Result<Setup> {
-    match Setup::plain(rt.alloc(), 3, 3, 1, 4_194_304) {
+/// Three nodes with this many queues, each replicated over all of them.
+fn setup(rt: HostRuntime, queues: u32) -> Result<Setup> {
+    match Setup::plain(rt.alloc(), 3, 3, queues, 4_194_304) {
         Ok(setup) => Ok(setup),
         Err(_) => bail!("no memory"),
+    }
+}
+
+/// A broker of them over new disks.
+pub fn opened<T: Taker>(
+    rt: HostRuntime,
+    queues: u32,
+    takers: &mut Desk<T>,
+) -> Result<Broker<MemDisk>> {
+    let alloc = rt.alloc();
+    let disks = vec![in alloc;
+        MemDisk::new(alloc),
+        MemDisk::new(alloc),
+        MemDisk::new(alloc),
+    ]?;
+    match open_disks(alloc, disks, setup(rt, queues)?, takers) {
+        Ok(broker) => Ok(broker),
+        Err(_) => bail!("not opened"),
     }
 }
 
 /// Its nodes stop, and it is opened again with what it knew, and then by the disks alone.
 fn a_stopped_broker_goes_on_over_its_disks(rt: HostRuntime) -> Result<()> {
     let alloc = rt.alloc();
-    let disks = vec![in alloc; MemDisk::new(alloc), MemDisk::new(alloc), MemDisk::new(alloc)]?;
     let mut takers = four_takers(alloc)?;
-    let Ok(mut broker) = open_disks(alloc, disks, setup(rt)?, &mut takers) else {
-        bail!("not opened");
-    };
+    let mut broker = opened(rt, 1, &mut takers)?;
     let said = serve(rt, &mut broker, &mut takers, &["publish a", "publish b"])?;
     ensure!(said.as_str() == "confirmed 1\nconfirmed 2\n", "{said}");
     ensure!(broker.pump(alloc, &mut takers) == Ok(Pumped::Idle));
@@ -67,7 +83,7 @@ fn a_stopped_broker_goes_on_over_its_disks(rt: HostRuntime) -> Result<()> {
                  3 1 enqueue 1 2 1 confirmed 2\n";
     ensure!(text.as_slice() == audit.as_bytes());
 
-    let Ok(mut broker) = reopen_disks(alloc, disks, setup(rt)?, audits, &mut takers) else {
+    let Ok(mut broker) = reopen_disks(alloc, disks, setup(rt, 1)?, audits, &mut takers) else {
         bail!("not opened again");
     };
     let lines = ["get", "crash 1 none", "crash 2 none", "publish c"];
@@ -76,7 +92,7 @@ fn a_stopped_broker_goes_on_over_its_disks(rt: HostRuntime) -> Result<()> {
 
     let (disks, audits) = broker.crash_all(alloc);
     drop(audits);
-    let Ok(mut broker) = open_disks(alloc, disks, setup(rt)?, &mut takers) else {
+    let Ok(mut broker) = open_disks(alloc, disks, setup(rt, 1)?, &mut takers) else {
         bail!("not opened by the disks alone");
     };
     let said = serve(rt, &mut broker, &mut takers, &["get 2 q1"])?;
@@ -88,12 +104,14 @@ fn a_stopped_broker_goes_on_over_its_disks(rt: HostRuntime) -> Result<()> {
 fn a_taker_is_given_once(rt: HostRuntime) -> Result<()> {
     let alloc = rt.alloc();
     let mut takers = four_takers(alloc)?;
-    let disks = vec![in alloc; MemDisk::new(alloc), MemDisk::new(alloc), MemDisk::new(alloc)]?;
-    let Ok(mut broker) = open_disks(alloc, disks, setup(rt)?, &mut takers) else {
-        bail!("not opened");
-    };
+    let mut broker = opened(rt, 1, &mut takers)?;
     ensure!(takers.is_free(1));
-    let lines = ["subscribe 1 q1 1 2", "attach 1 q1 1 1", "publish a", "attach 1 q1 1 2"];
+    let lines = [
+        "subscribe 1 q1 1 2",
+        "attach 1 q1 1 1",
+        "publish a",
+        "attach 1 q1 1 2",
+    ];
     let said = serve(rt, &mut broker, &mut takers, &lines)?;
     let wanted = "subscribed 1\nconfirmed 2\ntaken 1 1 1 settle\ndone\nbusy 1\n";
     ensure!(said.as_str() == wanted, "{said}");

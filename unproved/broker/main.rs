@@ -1,6 +1,7 @@
 //! Checks of whole runs of the broker, by name.
 #![tactic(auto)]
 
+mod calls;
 mod embedded;
 mod rolls;
 mod runs;
@@ -19,5 +20,6 @@ fn main(rt: HostRuntime) -> Result<()> {
     used::check(&mut trials)?;
     stops::check(&mut trials)?;
     embedded::check(&mut trials)?;
+    calls::check(&mut trials)?;
     trials.end()
 }

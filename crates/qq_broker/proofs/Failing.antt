@@ -407,3 +407,11 @@ module _ (k : ℕ) where
         few c events (stops-crashes (nodes_of setup nodes) image c events so)
     line-once n are (lines.Restart nodes) c events so = restarts-once n are nodes c events so
     line-once n are (lines.Show at) c events so = few c events (stops-is (Shows at.0) calm c events so)
+
+    -- a command that is given, and a pump after it
+    pub call-once : (session : ℕ) (body : Unstamped) (place : ℕ) (c : Cluster) (events : List ClusterEvent)
+        → Then (IsGiven session body place) (IsPump setup) c events → failures k events ≤ 1
+    call-once session body place c events so =
+        few c events
+        (stops-then (IsGiven session body place) (IsPump setup) (stops-given session body place) (stops-pumps most_rounds)
+        c events so)

@@ -19,6 +19,9 @@ mod GivenFree
 mod Gone
 pub mod Looped
 pub mod Closed
+pub mod Calls
+pub mod CallAnswers
+pub mod CallWorked
 pub mod DrillAudits
 pub mod DrillEnds
 pub mod DrillLoops

@@ -27,7 +27,7 @@ pump-line setup c events so = so
 
 module _ {D : Type 0} (given : Giving D) (facts : DiskFacts D) (run : Run) where
   -- with other nodes, and another text, it still has its setup and its room
-  runs-on : (old new : Broker D) (later : Run) → Runs given facts old run → new.setup ≡ old.setup
+  pub runs-on : (old new : Broker D) (later : Run) → Runs given facts old run → new.setup ≡ old.setup
       → new.room ≡ old.room → Holds given facts old.setup new.nodes later → Runs given facts new later
   runs-on old new later so same room holds =
       subst (λ (b : Broker D). Runs given facts b later) as-new (record {

@@ -6,5 +6,7 @@ pub mod Dumping
 pub mod Program
 pub mod Faults
 pub mod Broker
+pub mod CallExample
+pub mod Calling
 pub mod Drilling
 pub mod Drills

@@ -134,8 +134,8 @@ pub(crate) fn give_back<T: Taker>(told: Told<T>, text: &mut Vec<u8>, takers: &mu
     drop(mem::replace(takers, desk));
 }
 
-// What a pump tells by whether it has left nothing to do.
-fn pump_outcome(idle: bool) -> Pumped
+/// What a pump tells by whether it has left nothing to do.
+pub(crate) fn pump_outcome(idle: bool) -> Pumped
     ensures { is_done result ≡ idle }
 {
     if idle { Pumped::Idle } else { Pumped::Busy }

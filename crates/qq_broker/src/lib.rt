@@ -5,6 +5,8 @@
 mod asking;
 mod auditing;
 mod broker;
+mod call_laws;
+mod calling;
 mod disk_laws;
 mod drill_laws;
 mod drilling;
@@ -22,6 +24,11 @@ mod stopping;
 mod taker_laws;
 
 pub use broker::{Audits, Broker, Pumped};
+pub use call_laws::{
+    a_call_answers_what_is_true, a_call_is_given_to_a_ready_leader,
+    a_call_is_the_line_of_its_command, a_worked_call_is_answered,
+};
+pub use calling::Called;
 pub use disk_laws::{
     a_crash_leaves_the_named_image, a_given_disk_was_just_opened,
     a_node_fails_only_where_its_disk_did, a_restart_finds_what_the_disk_reads,
