@@ -235,7 +235,7 @@ module _ {D : Type 0} {facts : DiskFacts D} (rows : List QueueRow) (old : Held D
           (let s = rec.has.settles tell lot parts (x-ids ∙ same) promised in (
             s.stays,
             adds-now (KeepsPromised lot parts)
-            (facts.past (disk_in rec.own)) (facts.past rec.found.wal.disk) s.stays promised,
+                (facts.past (disk_in rec.own)) (facts.past rec.found.wal.disk) s.stays promised,
           ));
     })
 
@@ -309,7 +309,8 @@ module _ {D : Type 0} {facts : DiskFacts D} (rows : List QueueRow) (old : Held D
           (sw.seats queue.0 node.0) read in
           lost.lost.refused (lane-from queue found_lanes lost.lane has.is state.base state.unused)
 
-      lost-over : IsLostOver facts rows old left node queue found unfolding has-with
+      lost-over : IsLostOver facts rows old left node queue found
+      unfolding has-with
       lost-over =
           let index' : own.index ≡ queue.0 - 1 = omega (arith, own-place) in
           record {
