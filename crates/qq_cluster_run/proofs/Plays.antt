@@ -8,7 +8,7 @@ use Rattle.qq_base.specs.declared.ids.ConsumerId.{ConsumerId}
 use Rattle.qq_cluster.specs.Outcome.{deliveries_among, delivery_in}
 use Rattle.qq_taker.specs.declared.handed.Handed.{Handed}
 use Rattle.qq_taker.specs.declared.heard.Heard.{Heard}
-use Rattle.qq_drill.specs.Drill.{Drill, after_by, after_step, draw_next, hear, is_side_of}
+use Rattle.qq_drill.specs.Drill.{Drill, after_by, draw_next, hear, is_side_of}
 use Rattle.qq_drill.specs.declared.draw.Deed.{Deed}
 use Rattle.qq_drill.specs.declared.draw.Deed.TheVariants.{Sends, Gets, Subscribes, Settles, Returns, Crashes, Ticks}
 use Rattle.qq_drill.specs.declared.draw.Draw.{Draw}

@@ -1,5 +1,5 @@
 -- A drill as a run: which parts it has, which lines these serve by what was told before, and what is told of it at the end.
-use Rattle.std.specs.Prelude.{◌≡◌, ◌⊎◌, ℕ, ◌+◌, ◌-◌, List, [], ◌∷◌, ◌++◌, length, map, take, Bool, false, codes, count_by, if◌then◌else◌}
+use Rattle.std.specs.Prelude.{◌≡◌, ℕ, ◌+◌, ◌-◌, List, [], ◌∷◌, ◌++◌, length, map, take, Bool, false, codes, count_by, if◌then◌else◌}
 use Rattle.std.specs.List.{flat_map, range_with_len}
 use Rattle.hex.specs.Hex.{encode_lower}
 use Rattle.sha2.specs.Sha256.{sha256}
@@ -13,7 +13,7 @@ use Rattle.qq_setup.specs.Setup.{SetupState, plain_setup}
 use Rattle.qq_taker.specs.declared.handed.Handed.{Handed}
 use Rattle.qq_words.specs.declared.options.TheConstants.{LOG_BYTES}
 use Rattle.qq_drill.specs.Drill.{Drill, after_step, hear, is_sixteenth, last_restart, new_drill, resends, step_lines}
-use Rattle.qq_cluster.specs.Cluster.{Setup as ClusterSetup, Cluster, ClusterEvent, all_prints, cluster_after, new_cluster}
+use Rattle.qq_cluster.specs.Cluster.{Setup as ClusterSetup, Cluster, ClusterEvent, all_prints, cluster_after}
 use Rattle.qq_cluster.specs.Confirmed.{is_confirmed_row}
 use Rattle.qq_cluster.specs.Lines.{IsScript}
 use Rattle.qq_cluster.specs.Outcome.{all_heard, deliveries_among}

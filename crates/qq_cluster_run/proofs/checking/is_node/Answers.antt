@@ -1,4 +1,3 @@
-use Rattle.std.proofs.Common.{arith}
 use Rattle.std.proofs.lemmas.Bool.{leb-true}
 use Rattle.qq_cluster_run.proofs.Checked.{node-there}
 use Rattle.qq_cluster_run.proofs.checking.is_node.Goals as goal
