@@ -85,7 +85,7 @@ module _ {D : Type 0} (facts : DiskFacts D) (k : ℕ) (image : Image) (old new :
   seen-new : seen facts new k ≡ seen_of facts (disk_in crash.left)
   seen-new =
       seen-own facts new k y crash.left low (ap (λ (l : List (Node D)). slice_get l (k - 1)) nodes
-      ∙ set-here facts k old.nodes.items x y here) (ap (λ (n : Node D). n.log) crash.is)
+      ∙ set-here k old.nodes.items x y here) (ap (λ (n : Node D). n.log) crash.is)
 
   crashed-traced : (setup : Setup) (c : Cluster) → IsTrue (facts.tells (disk_in crash.own))
       → IsLinked setup c k (now (facts.past (disk_in crash.own)))

@@ -197,6 +197,15 @@ module _ {D : Type 0} (facts : DiskFacts D) where
       ap (λ (l : List (Node D)). seen_in facts (slice_get l j)) is ∙ ap (seen_in facts)
       (set-other old.nodes.items (k - 1) j y (λ same. other (let e : suc j ≡ k = omega (arith, low, same) in e)))
 
+-- ---- a node stops
+
+pub set-twice : {A : Type 0} (xs : List A) (at : ℕ) (x y : A) → slice_set (slice_set xs at x) at y ≡ slice_set xs at y
+set-twice [] zero x y = refl
+set-twice [] (suc at) x y = refl
+set-twice (z ∷ xs) zero x y = refl
+set-twice {A = A} (z ∷ xs) (suc at) x y = ap (λ (l : List A). z ∷ l) (set-twice xs at x y)
+
+module _ {D : Type 0} where
   -- the node that has changed
   pub set-here : (k : ℕ) (xs : List (Node D)) (x y : Node D) → slice_get xs (k - 1) ≡ Some x
       → slice_get (slice_set xs (k - 1) y) (k - 1) ≡ Some y
@@ -210,15 +219,6 @@ module _ {D : Type 0} (facts : DiskFacts D) where
       at (z ∷ l) zero is = refl
       at (z ∷ l) (suc i) is = at l i is
 
--- ---- a node stops
-
-pub set-twice : {A : Type 0} (xs : List A) (at : ℕ) (x y : A) → slice_set (slice_set xs at x) at y ≡ slice_set xs at y
-set-twice [] zero x y = refl
-set-twice [] (suc at) x y = refl
-set-twice (z ∷ xs) zero x y = refl
-set-twice {A = A} (z ∷ xs) (suc at) x y = ap (λ (l : List A). z ∷ l) (set-twice xs at x y)
-
-module _ {D : Type 0} where
   -- the node that has another log is down from then on
   pub stopped-nodes : (k : ℕ) (olds mids news : List (Node D)) (x y : Node D) → slice_get olds (k - 1) ≡ Some x
       → mids ≡ slice_set olds (k - 1) y
@@ -227,7 +227,7 @@ module _ {D : Type 0} where
   stopped-nodes k olds mids news x y here is turn =
       let own : turn.old ≡ y =
       some-as turn.old y (sym turn.here ∙ ap (λ (l : List (Node D)). slice_get l (k - 1)) is
-      ∙ set-here (λ d. true) (λ d. []) (λ d. 0) k olds x y here) in
+      ∙ set-here k olds x y here) in
       turn.is ∙ ap (λ (l : List (Node D)). slice_set l (k - 1) turn.new) is ∙ set-twice olds (k - 1) y turn.new
       ∙ ap (slice_set olds (k - 1)) (turn.turns ∙ ap (λ (d : Node D). record d { up = false }) own)
 
@@ -253,7 +253,7 @@ module _ {D : Type 0} {facts : DiskFacts D} (setup : Setup) (c : Cluster) (k : �
   seen-new : seen facts new k ≡ seen_of facts (disk_in ch.behind)
   seen-new =
       seen-own facts new k z ch.behind low (ap (λ (l : List (Node D)). slice_get l (k - 1)) nodes
-      ∙ set-here facts k old.nodes.items x z here) log
+      ∙ set-here k old.nodes.items x z here) log
 
   others : (j : ℕ) → (j ≢ k) → seen facts new j ≡ seen facts old j
   others = seen-others facts k old new z low nodes

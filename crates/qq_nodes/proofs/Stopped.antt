@@ -85,7 +85,7 @@ module _ {D : Type 0} (facts : DiskFacts D) (k : ℕ) (old new : Held D) (low : 
           → See (slice_get (slice_set old.nodes.items (k - 1) y) i) ≡ See (slice_get old.nodes.items i)
       by (inl own) =
           ap (λ (n : ℕ). See (slice_get (slice_set old.nodes.items (k - 1) y) n)) own
-          ∙ ap See (set-here facts k old.nodes.items x y stopped.nodes.here)
+          ∙ ap See (set-here k old.nodes.items x y stopped.nodes.here)
           ∙ ap (λ (n : Node D). See (Some n)) stopped.nodes.turns
           ∙ ap See (sym (ap (slice_get old.nodes.items) own ∙ stopped.nodes.here))
       by (inr other) = ap See (set-other old.nodes.items (k - 1) i y other)

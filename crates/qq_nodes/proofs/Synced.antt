@@ -480,8 +480,8 @@ module _ {D : Type 0} {facts : DiskFacts D} where
         → HasTurned (SyncsAt k) after_log last → Served facts (λ setup. IsSync setup k) old last told told
     synced last told turn marked = record {
       serves = λ setup c r st. whether _ (some_queue setup (waits_synced k) c)
-          (λ some. synced-some k old nodes low high up facts.faults Whole turn setup c r st last told refl marked some)
-          (λ none. synced-none k old nodes low high up facts.faults Whole turn setup c r st last told refl marked none);
+          (λ some. synced-some k old nodes low high up Whole turn setup c r st last told refl marked some)
+          (λ none. synced-none k old nodes low high up Whole turn setup c r st last told refl marked none);
     }
 
     -- the disk failed where a new file was begun
@@ -492,9 +492,9 @@ module _ {D : Type 0} {facts : DiskFacts D} where
         → Served facts (λ setup. IsSync setup k) old last before after
     synced-failed marked last before after turn turned stopped says = record {
       serves = λ setup c r st. whether _ (some_queue setup (waits_synced k) c)
-          (λ some. failed-after k old nodes low high up facts.faults NoFile turn setup c r st marked last
+          (λ some. failed-after k old nodes low high up NoFile turn setup c r st marked last
           before after refl turned stopped some says turn.turns.failed)
-          (λ none. failed-alone k old nodes low high up facts.faults NoFile turn setup c r st marked last
+          (λ none. failed-alone k old nodes low high up NoFile turn setup c r st marked last
           before after stopped turned.same turned.turns.many
           (mid-queues k old nodes low high up marked turned setup c c r st
           (unmoved k old nodes low high up setup c r st none)) says turn.turns.failed);
@@ -507,7 +507,7 @@ module _ {D : Type 0} {facts : DiskFacts D} where
         → Served facts (λ setup. IsSync setup k) old last before after
     sync-failed last before after turn stopped says = record {
       serves = λ setup c r st.
-          failed-alone k old nodes low high up facts.faults Nothing turn setup c r st after_log last before
+          failed-alone k old nodes low high up Nothing turn setup c r st after_log last before
           after stopped refl refl st.queues says turn.turns.failed;
     }
 

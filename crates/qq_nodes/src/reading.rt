@@ -1,4 +1,4 @@
-//! What is read of a queue: whether it has a leader, what that has, and how many rows the audit has.
+//! What is read of a queue: its leader's counts, and its audit's rows.
 ghost use Rattle.std.specs.Prelude.{◌≡◌, OnOk};
 ghost use Rattle.qq_cluster.specs.Cluster.{Cluster, Setup};
 ghost use Rattle.qq_cluster.specs.Counts.{counts};
@@ -23,8 +23,8 @@ impl<D: NodeDisk> Nodes<D> {
         self.queues[queue.0 as usize - 1].leader().is_some()
     }
 
-    /// How many messages are ready at a queue's leader, and how many of its consumers weren't cancelled. None exactly
-    /// where no member leads and takes commands.
+    /// How many messages are ready at a queue's leader, and how many of its consumers weren't
+    /// cancelled, as far as 32 bits count. None exactly where no member leads and takes commands.
     pub fn counts(&self, queue: QueueId) -> Option<(u64, u32)>
         requires serve { CanServe D.facts self.now }
         requires queue { IsQueueAt queue self.now }

@@ -223,7 +223,7 @@ module _ {D : Type 0} {facts : DiskFacts D} (node : NodeId) (old : Held D) (foun
   there : slice_get found.nodes.items (node.0 - 1) ≡ Some found.turn.new
   there =
       ap (λ (l : List (Node D)). slice_get l (node.0 - 1)) found.turn.is
-      ∙ set-here facts node.0 old.nodes.items found.turn.old found.turn.new found.turn.here
+      ∙ set-here node.0 old.nodes.items found.turn.old found.turn.new found.turn.here
 
   -- its queues are as they were
   ids-same : found.turn.new.queues.items ≡ found.turn.old.queues.items

@@ -270,7 +270,7 @@ module _ {D : Type 0} {facts : DiskFacts D} (node : NodeId) (old : Held D) (at :
   cause-is fault stays =
       let there : slice_get finds.nodes.items (k - 1) ≡ Some turn.new =
       ap (λ (l : List (Node D)). slice_get l (k - 1)) turn.is
-      ∙ set-here facts k old.nodes.items turn.old turn.new turn.here in
+      ∙ set-here k old.nodes.items turn.old turn.new turn.here in
       subst (λ (y : Node D). IsTakeEachCaused k (handed_of false y.empty) (pairs y.queues.items found) old.queues.items
       fault)
       (some-same stays.own turn.new (sym stays.here ∙ there) ∙ rec.is) stays.cause

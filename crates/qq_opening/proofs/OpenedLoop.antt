@@ -69,7 +69,7 @@ module _ {D : Type 0} {facts : DiskFacts D} (rows : List QueueRow) (old : Held D
         ap (slice_get left.nodes.items) (sym index)
         ∙ ap (λ (l : List (Node D)). slice_get l (node.0 - 1))
         (left-nodes rows old new at held to.opened node is lt left step)
-        ∙ set-here facts node.0 held.nodes.items step.found.turn.old
+        ∙ set-here node.0 held.nodes.items step.found.turn.old
         (record step.found.turn.new { up = true; empty = false }) step.found.turn.here
 
     stayed-down : (left : Held D) (none : FindsNone facts node held left recover_faults.Disk)
@@ -77,7 +77,7 @@ module _ {D : Type 0} {facts : DiskFacts D} (rows : List QueueRow) (old : Held D
     stayed-down left none = (
       ap (slice_get left.nodes.items) (sym index)
           ∙ ap (λ (l : List (Node D)). slice_get l (node.0 - 1)) none.turn.is
-          ∙ set-here facts node.0 held.nodes.items none.turn.old none.turn.new none.turn.here,
+          ∙ set-here node.0 held.nodes.items none.turn.old none.turn.new none.turn.here,
       ap (λ (y : Node D). y.up) none.turn.turns.is
           ∙ (next-still rows old new at held to.opened node is lt none.turn.old none.turn.here).is.up_is,
     )

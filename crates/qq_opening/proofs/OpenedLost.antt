@@ -218,7 +218,7 @@ module _ {D : Type 0} {facts : DiskFacts D} (rows : List QueueRow) (old : Held D
     seen-back =
         seen-own facts left node.0 finds.turn.new (Open rec.found.wal) low
         (ap (λ (l : List (Node D)). slice_get l (node.0 - 1)) (nodes-are ∙ finds.turn.is)
-        ∙ set-here facts node.0 held.nodes.items x finds.turn.new finds.turn.here) (ap (λ (y : Node D). y.log) rec.is)
+        ∙ set-here node.0 held.nodes.items x finds.turn.new finds.turn.here) (ap (λ (y : Node D). y.log) rec.is)
 
     as-seen : (P : Seen → Seen → Type 0)
         → P (seen_of facts (disk_in rec.own)) (seen_of facts rec.found.wal.disk)
@@ -257,7 +257,7 @@ module _ {D : Type 0} {facts : DiskFacts D} (rows : List QueueRow) (old : Held D
     caused =
         let there : slice_get finds.nodes.items (node.0 - 1) ≡ Some finds.turn.new =
         ap (λ (l : List (Node D)). slice_get l (node.0 - 1)) finds.turn.is
-        ∙ set-here facts node.0 held.nodes.items x finds.turn.new finds.turn.here in
+        ∙ set-here node.0 held.nodes.items x finds.turn.new finds.turn.here in
         let queues : back.stays.own.queues.items ≡ ids =
         ap (λ (y : Node D). y.queues.items)
         (some-node back.stays.own finds.turn.new (sym back.stays.here ∙ there) ∙ rec.is)

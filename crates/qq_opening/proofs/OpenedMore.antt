@@ -120,7 +120,7 @@ module _ {D : Type 0} {facts : DiskFacts D} (rows : List QueueRow) (old : Held D
       own-node y there =
           some-same y z (sym there ∙ ap (slice_get left.nodes.items) (sym index)
           ∙ ap (λ (l : List (Node D)). slice_get l (node.0 - 1)) nodes
-          ∙ set-here facts node.0 held.nodes.items x z here)
+          ∙ set-here node.0 held.nodes.items x z here)
         where
           some-same : (a b : Node D) → Some a ≡ Some b → a ≡ b
           some-same a b e = cc

@@ -132,7 +132,7 @@ module _ {D : Type 0} {facts : DiskFacts D} (rows : List QueueRow) (old : Held D
   seen-left =
       seen-own facts left node.0 none.turn.new (Closed fails.left) low
       (ap (λ (l : List (Node D)). slice_get l (node.0 - 1)) none.turn.is
-      ∙ set-here facts node.0 held.nodes.items y none.turn.new none.turn.here) (ap (λ (n : Node D). n.log) fails.is)
+      ∙ set-here node.0 held.nodes.items y none.turn.new none.turn.here) (ap (λ (n : Node D). n.log) fails.is)
 
   -- it was as it is at first
   seen-first : a node.0 ≡ seen_of facts (disk_in fails.own)

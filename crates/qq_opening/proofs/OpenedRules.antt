@@ -202,7 +202,7 @@ module _ {D : Type 0} {facts : DiskFacts D} (rows : List QueueRow) (old : Held D
     up-then =
         (node-was setup (cluster_after c went-up.did.events) left node.0 up_node went-up.did.stands low
         (ap (λ (l : List (Node D)). slice_get l (node.0 - 1)) (left-nodes rows old new at held o node is lt left step)
-        ∙ set-here facts node.0 held.nodes.items step.found.turn.old up_node step.found.turn.here)).up_is
+        ∙ set-here node.0 held.nodes.items step.found.turn.old up_node step.found.turn.here)).up_is
 
     pub serves-up : (more : Bool) → more ≡ (some || true)
         → OpenedServes facts setup (at + 1) (put (at + 1) (Some found_lanes) o.lanes) more old left before middle

@@ -236,7 +236,7 @@ module _ {D : Type 0} {facts : DiskFacts D} (rows : List QueueRow) (old : Held D
         seen-own facts left node.0 (record finds'.turn.new { up = true; empty = false })
         (Open (rec finds').found.wal) low
         (ap (λ (l : List (Node D)). slice_get l (node.0 - 1)) left-nodes
-        ∙ set-here facts node.0 held.nodes.items own_x
+        ∙ set-here node.0 held.nodes.items own_x
         (record finds'.turn.new { up = true; empty = false }) finds'.turn.here)
         (ap (λ (y : Node D). y.log) (rec finds').is)
 
@@ -279,7 +279,7 @@ module _ {D : Type 0} {facts : DiskFacts D} (rows : List QueueRow) (old : Held D
     there =
         ap (slice_get left.nodes.items) (sym index)
         ∙ ap (λ (l : List (Node D)). slice_get l (node.0 - 1)) none.turn.is
-        ∙ set-here facts node.0 held.nodes.items y none.turn.new none.turn.here
+        ∙ set-here node.0 held.nodes.items y none.turn.new none.turn.here
 
     some-node : (a b : Node D) → Some a ≡ Some b → a ≡ b
     some-node a b e = cc
@@ -321,7 +321,7 @@ module _ {D : Type 0} {facts : DiskFacts D} (rows : List QueueRow) (old : Held D
     seen-last =
         seen-own facts last node.0 z (Closed fails.left) low
         (ap (λ (l : List (Node D)). slice_get l (node.0 - 1)) last-nodes
-        ∙ set-here facts node.0 held.nodes.items y z none.turn.here) (ap (λ (n : Node D). n.log) fails.is)
+        ∙ set-here node.0 held.nodes.items y z none.turn.here) (ap (λ (n : Node D). n.log) fails.is)
 
     disk-failed : WasRead ids (seen facts held node.0) (seen facts last node.0) None
     disk-failed =

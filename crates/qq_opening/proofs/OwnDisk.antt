@@ -32,7 +32,7 @@ module _ {D : Type 0} {facts : DiskFacts D} (setup : Setup) (c : Cluster) (k : �
   seen-behind : seen facts new k ≡ seen_of facts (disk_in behind)
   seen-behind =
       seen-own facts new k z behind low (ap (λ (l : List (Node D)). slice_get l (k - 1)) nodes
-      ∙ set-here facts k old.nodes.items x z here) log
+      ∙ set-here k old.nodes.items x z here) log
 
   others : (j : ℕ) → (j ≢ k) → seen facts new j ≡ seen facts old j
   others = seen-others facts k old new z low nodes

@@ -77,7 +77,7 @@ module _ {D : Type 0} {facts : DiskFacts D} (node : NodeId) (old : Held D) (at :
   there : slice_get finds.nodes.items (k - 1) ≡ Some mid_node
   there =
       ap (λ (l : List (Node D)). slice_get l (k - 1)) finds.turn.is
-      ∙ set-here facts k old.nodes.items was_node mid_node finds.turn.here
+      ∙ set-here k old.nodes.items was_node mid_node finds.turn.here
 
   pub was-node : (setup : Setup) (c : Cluster) → Stands facts setup old c → IsNodeOf facts setup c k was_node
   was-node setup c st = node-was setup c old k was_node st at.0 finds.turn.here
