@@ -97,7 +97,7 @@ pub fn takers_see_what_is_shown()
 /// - `one`: after what was heard before.
 /// - `none`: nothing of takers, nor what is printed of no queue's clients.
 /// - `deliveries`: the deliveries among what was heard, in order.
-pub fn who_listens_hears_this()
+pub fn who_listens_hears_answers_deliveries_and_refusals()
     ensures told { (row : AuditRow) (consumer : ConsumerId) (d : Delivery) →
         all_heard (Of 3 (Answered row) ∷ Of 4 (Delivered consumer d) ∷ Of 3 (NoLeader 5)
         ∷ Of 3 (WindowFull 6) ∷ Of 3 (HasEnded 7) ∷ Of 3 (NotTaken 8 9) ∷ [])
