@@ -1,5 +1,5 @@
 -- A queue counts what its leader has applied.
-use Rattle.std.proofs.Common.{◌≡◌, ℕ, Bool, true, false, List, [], ◌∷◌, Option, Some, None, cond, fold, refl, sym, ap, ◌∙◌, subst, take}
+use Rattle.std.proofs.Common.{◌≡◌, ℕ, Bool, true, false, List, [], ◌∷◌, Option, Some, None, cond, fold, refl, ap, ◌∙◌, subst, take}
 use Rattle.std.specs.Prelude.{is_some, nat_lt}
 use Rattle.std.specs.Option.{option_map}
 use Rattle.qq_base.specs.declared.ids.NodeId.{NodeId}

@@ -25,7 +25,10 @@ refused_at place session why = record { queue = record { 0 = place }; what = Ref
 abbrev pub heard_by : (place : ℕ) → Shown → Option Heard
 heard_by place (Answered row) = Some (record { queue = record { 0 = place }; what = Answer row })
 heard_by place (Delivered consumer delivery) =
-    Some (record { queue = record { 0 = place }; what = Delivery (record { consumer = consumer; delivery = delivery }) })
+    Some (record {
+      queue = record { 0 = place };
+      what = Delivery (record { consumer = consumer; delivery = delivery });
+    })
 heard_by place (NoLeader session) = Some (refused_at place session refusals.NoLeader)
 heard_by place (WindowFull session) = Some (refused_at place session refusals.WindowFull)
 heard_by place (HasEnded session) = Some (refused_at place session refusals.Ended)

@@ -1,6 +1,6 @@
 //! Laws of what takers see, and of what is left between lines: the functions do nothing, and their contracts are the
 //! laws.
-ghost use Rattle.std.specs.Prelude.{◌≡◌, ◌≢◌, ◌++◌, ◌∷◌, [], ℕ, List, Option, Some, None, true, false, ◌,◌, Contains, drop, filter_map, find, length, map, take};
+ghost use Rattle.std.specs.Prelude.{◌≡◌, ◌≢◌, ◌++◌, ◌∷◌, [], ℕ, List, Option, Some, None, true, false, Contains, drop, filter_map, find, length, map, take};
 ghost use Rattle.qq_base.specs.Ids.{client, same_consumer};
 ghost use Rattle.qq_base.specs.declared.ids.ConsumerId.{ConsumerId};
 ghost use Rattle.qq_base.specs.declared.ids.QueueId.{QueueId};
@@ -97,13 +97,15 @@ pub fn takers_see_what_is_shown()
 /// - `one`: after what was heard before.
 /// - `none`: nothing of takers, nor what is printed of no queue's clients.
 /// - `deliveries`: the deliveries among what was heard, in order.
-pub fn who_listens_hears_this()
+pub fn who_listens_hears_answers_deliveries_and_refusals()
     ensures told { (row : AuditRow) (consumer : ConsumerId) (d : Delivery) →
         all_heard (Of 3 (Answered row) ∷ Of 4 (Delivered consumer d) ∷ Of 3 (NoLeader 5)
         ∷ Of 3 (WindowFull 6) ∷ Of 3 (HasEnded 7) ∷ Of 3 (NotTaken 8 9) ∷ [])
         ≡ record { queue = record { 0 = 3 }; what = whats.Answer row }
-        ∷ record { queue = record { 0 = 4 };
-        what = whats.Delivery (record { consumer = consumer; delivery = d }) }
+        ∷ record {
+          queue = record { 0 = 4 };
+          what = whats.Delivery (record { consumer = consumer; delivery = d });
+        }
         ∷ record { queue = record { 0 = 3 }; what = whats.Refused 5 refusals.NoLeader }
         ∷ record { queue = record { 0 = 3 }; what = whats.Refused 6 refusals.WindowFull }
         ∷ record { queue = record { 0 = 3 }; what = whats.Refused 7 refusals.Ended }

@@ -129,8 +129,8 @@ fn keep_delivery(
 
 /// The takers of a run, under the numbers 1, 2, 3 and so on. Each may be given to one consumer, once.
 ///
-/// Beside them, who listens is told answers, deliveries to consumers without a taker, and that commands weren't given to
-/// a leader. Contracts see of each taker whether it was given and what it has seen, and what was kept.
+/// Beside them, who listens is told answers, deliveries to consumers without a taker, and that commands weren't given
+/// to a leader. Contracts see of each taker whether it was given and what it has seen, and what was kept.
 #[derive(Drop)]
 pub struct Desk<T: Taker> {
     rows: Vec<Place<T>>,

@@ -38,8 +38,9 @@ pub fn takers_see_nothing_after_the_drop()
         give number (drop_at number all) ≡ drop_at number all }
 {}
 
-/// Who listens hears all that is told from then on, in order, and what comes next after that was taken out. Where nobody
-/// listens nothing is kept. What is heard in between, after another list, leaves all as it was once that list is put back.
+/// Who listens hears all that is told from then on, in order, and what comes next after that was taken out. Where
+/// nobody listens nothing is kept. A call may be heard by itself: once what was kept before is put back, all is as it
+/// was.
 pub fn what_is_told_is_kept_in_order()
     ensures heard { (all : Takers) (first second : Heard) →
         (hear second (hear first (listen all))).heard ≡ Some (first ∷ second ∷ []) }

@@ -29,13 +29,13 @@ returns-clause-same c = λ all place session number. refl
 
 pub returns-clause-unheard : goal.returns-clause-unheard
 returns-clause-unheard c = λ all place session id row d consumer nobody. (
-    unheard _ all nobody,
-    unheard _ all nobody,
-    unheard _ all nobody,
-    unheard _ all nobody,
-    unheard _ all nobody,
-    unheard _ all nobody,
-  )
+  unheard _ all nobody,
+  unheard _ all nobody,
+  unheard _ all nobody,
+  unheard _ all nobody,
+  unheard _ all nobody,
+  unheard _ all nobody,
+)
 
 pub returns-clause-event : goal.returns-clause-event
 returns-clause-event c = takers-at

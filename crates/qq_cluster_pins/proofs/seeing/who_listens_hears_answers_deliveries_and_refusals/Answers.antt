@@ -2,7 +2,7 @@ use Rattle.std.proofs.Common.{List, [], ◌∷◌, ◌++◌, ap, refl}
 use Rattle.std.specs.Option.{option_map}
 use Rattle.qq_taker.specs.declared.heard.Heard.{Heard}
 use Rattle.qq_taker.specs.declared.heard.What.TheVariants.{Answer}
-use Rattle.qq_cluster_pins.proofs.seeing.who_listens_hears_this.Goals as goal
+use Rattle.qq_cluster_pins.proofs.seeing.who_listens_hears_answers_deliveries_and_refusals.Goals as goal
 
 pub returns-clause-told : goal.returns-clause-told
 returns-clause-told c = λ row consumer d. refl
