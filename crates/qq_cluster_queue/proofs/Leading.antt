@@ -1,5 +1,5 @@
 -- What the leader's machine counts is what the definition counts.
-use Rattle.std.proofs.Common.{◌≡◌, ℕ, ◌+◌, ◌×◌, ◌-◌, ◌^◌, Bool, true, cond, List, length, map, Option, Some, None, refl, sym, ap, ◌∙◌}
+use Rattle.std.proofs.Common.{◌≡◌, ℕ, ◌+◌, ◌-◌, ◌^◌, Bool, true, cond, length, Option, Some, None, refl, sym, ap, ◌∙◌}
 use Rattle.std.specs.Prelude.{count_by, is_none, min, not}
 use Rattle.std.specs.Option.{option_map}
 use Rattle.std.proofs.lemmas.List.Folds.{fold-map}
@@ -8,14 +8,14 @@ use Rattle.qq_entry.specs.declared.queue.QueueArgs.{QueueArgs}
 use Rattle.qq_machine.specs.Reads.{is_current}
 use Rattle.qq_model.specs.State.{State}
 use Rattle.qq_model.specs.declared.consumer.Consumer.{Consumer}
-use Rattle.qq_parts.specs.Parts.{Parts, Served, consumer_at}
+use Rattle.qq_parts.specs.Parts.{Parts, consumer_at}
 use Rattle.qq_parts.specs.Reads.{ready_items}
 use Rattle.qq_raft_core.specs.Raft.{server_of}
 use Rattle.qq_raft_model.specs.State.{Server as Raft}
 use Rattle.qq_raft_queues.specs.StandsFor.{StandsFor}
 use Rattle.qq_raft_queues.specs.declared.machine_queue.MachineQueue.{MachineQueue}
 use Rattle.qq_group.specs.Group.{server_at}
-use Rattle.qq_group.specs.Reads.{leader_of, machine_at, machine_of}
+use Rattle.qq_group.specs.Reads.{leader_of, machine_of}
 use Rattle.qq_cluster.specs.Counts.{counts, counts_by, counts_of}
 use Rattle.qq_cluster.specs.Delivering.{applied_by}
 use Rattle.qq_cluster.specs.Queue.{Queue, leader, server_of as server_in}
@@ -74,16 +74,18 @@ counts-of known committed reads sessions d q node s st leads up =
     ∙ ap (option_map (counts_by q.args)) (sym (ap (λ (o : Option ℕ). server_in o q.group) lead ∙ seat))
 
 pub counts-are : AreKnown → AreCommitted → PartsRead → (sessions : Standings) (d : ClusterQueue) (q : Queue)
-    (m : MachineQueue) (found : ℕ × ℕ) → Stands sessions d q
-    → Some m ≡ machine_of (leader_of own_log d.group) d.group → found.0 ≡ length (ready_items m.machine)
-    → found.1 ≡ min (count_by is_current m.machine.served) (2 ^ 32 - 1) → Some found ≡ counts q
-counts-are known committed reads sessions d q m found st there ready consumers =
+    (m : MachineQueue) (parts : Parts) (found : ℕ × ℕ) → Stands sessions d q
+    → Some m ≡ machine_of (leader_of own_log d.group) d.group → parts ≡ m.machine
+    → found.0 ≡ length (ready_items parts) → found.1 ≡ min (count_by is_current parts.served) (2 ^ 32 - 1)
+    → Some found ≡ counts q
+counts-are known committed reads sessions d q m parts found st there own ready consumers =
     by (leader_of own_log d.group) refl there
   where
     pair : found ≡ counted_in m.machine
     pair =
         ap (λ (n : ℕ). let p : ℕ × ℕ = (n, found.1) in p) ready
-        ∙ ap (λ (n : ℕ). let p : ℕ × ℕ = (length (ready_items m.machine), n) in p) consumers
+        ∙ ap (λ (n : ℕ). let p : ℕ × ℕ = (length (ready_items parts), n) in p) consumers
+        ∙ ap counted_in own
 
     by : (o : Option NodeId) → leader_of own_log d.group ≡ o → Some m ≡ machine_of o d.group → Some found ≡ counts q
     by None leads is = absurd (let e : ◌≡◌ {A = Option MachineQueue} (Some m) None = is in cc)
