@@ -31,7 +31,7 @@ counts-none q none = ap (λ (o : Option ℕ). option_map (counts_by q.args) (ser
 -- ---- a leader is up
 
 -- the member that leads is up
-IsUpAt : Group → Option Leading → Type 0
+abbrev IsUpAt : Group → Option Leading → Type 0
 IsUpAt g None = Unit {0}
 IsUpAt g (Some l) = is_some (g.seat l.node).server ≡ true
 

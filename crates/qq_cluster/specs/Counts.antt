@@ -1,5 +1,5 @@
 -- How many messages are ready at a queue's leader, and how many of its consumers weren't cancelled.
-use Rattle.std.specs.Prelude.{ℕ, ◌×◌, ◌-◌, ◌^◌, Option, count_by, min, not}
+use Rattle.std.specs.Prelude.{ℕ, ◌-◌, ◌^◌, Option, count_by, min, not}
 use Rattle.std.specs.Option.{option_map}
 use Rattle.qq_entry.specs.declared.queue.QueueArgs.{QueueArgs}
 use Rattle.qq_model.specs.Limits.{ready_count}

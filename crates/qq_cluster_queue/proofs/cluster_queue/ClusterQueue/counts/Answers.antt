@@ -7,5 +7,6 @@ returns-in_default c = λ sessions q st. counts-none sessions c.args.self.now q 
 pub returns : goal.returns
 returns c = λ sessions q st.
     counts-are c.what_is_committed_stays_in_the_audit.ensures.known c.what_a_group_committed_stays.ensures.commit
-    c.parts_tell_the_queue.ensures sessions c.args.self.now q c.in-Some.queue.now c.counts.result st
-    c.in-Some.ensures.value c.counts.ensures.ready c.counts.ensures.consumers
+    c.parts_tell_the_queue.ensures sessions c.args.self.now q c.in-Some.queue.now c.machine-machine.result.now
+    c.counts.result st c.in-Some.ensures.value c.machine-machine.ensures c.counts.ensures.ready
+    c.counts.ensures.consumers
