@@ -92,7 +92,14 @@ fn finish<D: NodeDisk>(
     if let Err(cause) = add_audits(alloc, setup, nodes, &mut digest, &mut tally) {
         return Err(cause);
     }
-    summary(alloc, number, tally.rows, tally.confirmed, delivered, digest.finalize())
+    summary(
+        alloc,
+        number,
+        tally.rows,
+        tally.confirmed,
+        delivered,
+        digest.finalize(),
+    )
 }
 
 // The line of a drill is written, or that there was no memory for it.
@@ -182,7 +189,9 @@ fn open_drill<Y: Yard, T: Taker, O: Sink>(
         drop(play);
         return close(output, Ending::no_memory());
     }
-    serve_drill::<Y, T, O>(alloc, setup, number, list, &mut nodes, yard, &mut told, play, output)
+    serve_drill::<Y, T, O>(
+        alloc, setup, number, list, &mut nodes, yard, &mut told, play, output,
+    )
 }
 
 // Makes what a drill of this setup needs, and runs it.

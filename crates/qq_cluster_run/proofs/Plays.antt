@@ -78,7 +78,7 @@ pub count-more : (list : List Heard) (i : ℕ) (h : Heard) (old one new all : �
     → new + length (deliveries_among (drop (i + 1) list)) ≡ all
 count-more list i h old one new all lt is sum same so =
     let split : length (deliveries_among (drop i list))
-        ≡ length (deliveries_among (h ∷ [])) + length (deliveries_among (drop (i + 1) list)) =
+    ≡ length (deliveries_among (h ∷ [])) + length (deliveries_among (drop (i + 1) list)) =
     ap length (among-more list i h lt is)
     ∙ length-append (deliveries_among (h ∷ [])) (deliveries_among (drop (i + 1) list)) in
     omega (arith, sum, same, so, split)

@@ -61,12 +61,7 @@ fn push_elects(out: &mut Vec<Part>, queue: QueueId, nodes: &[NodeId]) -> Result<
     Ok(())
 }
 
-fn push_elections(
-    alloc: Global,
-    out: &mut Vec<Part>,
-    nodes: u8,
-    queue: u32,
-) -> Result<(), Memory>
+fn push_elections(alloc: Global, out: &mut Vec<Part>, nodes: u8, queue: u32) -> Result<(), Memory>
     requires { 0 < nodes }
     ensures ok { OnOk result (out.new.items ≡ out.old.items ++ elects nodes queue) }
     ensures want { IsOkUnless result Memory.Want }

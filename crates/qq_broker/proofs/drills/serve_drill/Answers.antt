@@ -6,9 +6,9 @@ use Rattle.qq_broker.proofs.DrillEnds.{drill-finished}
 use Rattle.qq_broker.proofs.drills.serve_drill.Goals as goal
 
 pub finish-requires-clause-holds : goal.finish-requires-clause-holds
-finish-requires-clause-holds g c = λ lifetimes bounds.
-    (let p = c.requires.plays in
-    let on = c.in-Ok.ensures.ok p.0 p.1.0 p.1.1.0 p.1.1.1 in (p.0, (run_with p.1.0 on.more, on.plays.holds)))
+finish-requires-clause-holds g c =
+    let p = c.requires.plays in
+    let on = c.in-Ok.ensures.ok p.0 p.1.0 p.1.1.0 p.1.1.1 in (p.0, (run_with p.1.0 on.more, on.plays.holds))
 
 pub returns-in-Ok-clause-ends : goal.returns-in-Ok-clause-ends
 returns-in-Ok-clause-ends g c = λ given run k so.

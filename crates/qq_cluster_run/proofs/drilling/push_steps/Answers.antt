@@ -19,7 +19,7 @@ loop-before-preserved c =
 
 pub returns-clause-ok : goal.returns-clause-ok
 unfolding steps
-returns-clause-ok c = 
+returns-clause-ok c =
     let same : c.loop-before.before ≡ STEPS = omega arith in
     c.loop-before.invariant
     ∙ ap (λ n. c.args.out.now.items ++ map Step (range_with_len 1 n)) same
