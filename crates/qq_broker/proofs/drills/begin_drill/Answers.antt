@@ -11,8 +11,8 @@ returns-in-Err-clause-ends g c = λ source.
     let yard = g.Y.Yard.faults c.args.yard.now in
     inl (record {
       ending = c.no_memory.result;
-      may = no-room (Meets (under g.Y.Yard.is_given None) disk.tells disk.past disk.faults yard yard) c.args.setup.now
-          c.no_memory.result c.no_memory.ensures;
+      may = no-room (Meets (under g.Y.Yard.is_given None) disk.facts yard yard) c.args.setup.now c.no_memory.result
+          c.no_memory.ensures;
       keeps = keeps-all source.left;
       closes = c.close.ensures.closes;
     }))
@@ -23,7 +23,7 @@ returns-in-Err-new-clause-ends g c = λ source.
     let yard = g.Y.Yard.faults c.args.yard.now in
     inl (record {
       ending = c.no_memory-in-Err-new.result;
-      may = no-room (Meets (under g.Y.Yard.is_given None) disk.tells disk.past disk.faults yard yard) c.args.setup.now
+      may = no-room (Meets (under g.Y.Yard.is_given None) disk.facts yard yard) c.args.setup.now
           c.no_memory-in-Err-new.result c.no_memory-in-Err-new.ensures;
       keeps = keeps-all source.left;
       closes = c.close-in-Err-new.ensures.closes;

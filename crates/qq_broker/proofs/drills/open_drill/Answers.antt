@@ -13,8 +13,8 @@ returns-in-Err-tell-clause-ends g c = λ source.
     let yards = g.Y.Yard.faults in
     inl (record {
       ending = c.no_memory.result;
-      may = no-room (Meets (under g.Y.Yard.is_given None) disk.tells disk.past disk.faults (yards c.args.yard.now)
-          (yards c.open.new.yard)) c.args.setup.now c.no_memory.result c.no_memory.ensures;
+      may = no-room (Meets (under g.Y.Yard.is_given None) disk.facts (yards c.args.yard.now) (yards c.open.new.yard))
+          c.args.setup.now c.no_memory.result c.no_memory.ensures;
       keeps = keeps-all source.left;
       closes = c.close-in-Err-tell.ensures.closes;
     }))
@@ -27,12 +27,11 @@ serve_drill-requires-clause-plays g c = λ lifetimes bounds.
     let so = c.in-Ok.ensures.ok in (
       given,
       (
-        first_run given disk.tells disk.past disk.faults s c.in-Ok.nodes c.listen.new.self c.open.new.told so,
+        first_run given disk.facts s c.in-Ok.nodes c.listen.new.self c.open.new.told so,
         (
-          known_first given disk.tells disk.past disk.faults s c.args.number c.in-Ok.nodes c.listen.new.self
-              c.open.new.told so,
-          opened-plays given disk.tells disk.past disk.faults s c.who_listens_hears_what_is_told.ensures.heard
-              c.args.number c.in-Ok.nodes c.listen.new.self c.open.new.told c.tell.new.told c.args.play c.tell.new.play
+          known_first given disk.facts s c.args.number c.in-Ok.nodes c.listen.new.self c.open.new.told so,
+          opened-plays given disk.facts s c.who_listens_hears_what_is_told.ensures.heard c.args.number c.in-Ok.nodes
+              c.listen.new.self c.open.new.told c.tell.new.told c.args.play c.tell.new.play
               (listens c.new-told.result c.listen.new.self (ap (λ (o : Outcome). o.text) c.new-told.ensures)
               c.listen.ensures) so c.requires.knows c.in_default.ensures.silent c.in_default.ensures.ok,
         ),
@@ -47,14 +46,14 @@ returns-clause-ends g c = λ source.
     let state = sink_state g.O.Sink.written g.O.Sink.faults in
     let s = c.args.setup.now in
     let so = c.in-Ok.ensures.ok in
-    opened-drilled given disk.tells disk.past disk.faults s (yards c.args.yard.now) (yards c.open.new.yard)
-    (yards c.serve_drill.new.yard) c.in-Ok.ensures.later c.args.number c.serve_drill.result c.args.list.now source
+    opened-drilled given disk.facts s (yards c.args.yard.now) (yards c.open.new.yard) (yards c.serve_drill.new.yard)
+    c.in-Ok.ensures.later c.args.number c.serve_drill.result c.args.list.now source
     (state c.args.output.now) (state c.serve_drill.new.output) c.in-Ok.nodes c.listen.new.self c.open.new.told
     c.requires.parts so
     (c.serve_drill.ensures.ends given
-    (first_run given disk.tells disk.past disk.faults s c.in-Ok.nodes c.listen.new.self c.open.new.told so)
-    (known_first given disk.tells disk.past disk.faults s c.args.number c.in-Ok.nodes c.listen.new.self c.open.new.told so)
-    (opened-plays given disk.tells disk.past disk.faults s c.who_listens_hears_what_is_told.ensures.heard
-    c.args.number c.in-Ok.nodes c.listen.new.self c.open.new.told c.tell.new.told c.args.play c.tell.new.play
+    (first_run given disk.facts s c.in-Ok.nodes c.listen.new.self c.open.new.told so)
+    (known_first given disk.facts s c.args.number c.in-Ok.nodes c.listen.new.self c.open.new.told so)
+    (opened-plays given disk.facts s c.who_listens_hears_what_is_told.ensures.heard c.args.number c.in-Ok.nodes
+    c.listen.new.self c.open.new.told c.tell.new.told c.args.play c.tell.new.play
     (listens c.new-told.result c.listen.new.self (ap (λ (o : Outcome). o.text) c.new-told.ensures) c.listen.ensures) so
     c.requires.knows c.in_default.ensures.silent c.in_default.ensures.ok)))
