@@ -4,7 +4,7 @@ use Rattle.qq_disk.specs.Facts.{DiskFacts}
 use Rattle.qq_ports.specs.Streams.{SinkState, SourceState, Writes}
 use Rattle.qq_script_lines.specs.declared.line.ScriptLine.{ScriptLine}
 use Rattle.qq_setup.specs.declared.setup.Setup.{Setup}
-use Rattle.qq_taker.specs.Takers.{Takers}
+use Rattle.qq_taker.specs.Takers.{Takers, listen}
 use Rattle.qq_taker.specs.declared.heard.Heard.{Heard}
 use Rattle.qq_cluster.specs.Cluster.{ClusterEvent, Setup as ClusterSetup, all_prints, new_cluster}
 use Rattle.qq_cluster.specs.Outcome.{Outcome, all_heard, deliveries_among}
@@ -34,6 +34,11 @@ use Rattle.qq_broker.proofs.Meeting.{meets-earlier}
 -- no cluster of a setup is opened where there is no memory
 pub no-room : (met : Trouble → Type 0) (s : Setup) (ending : Ending) → ending ≡ no_memory → MayNotOpen met s ending
 no-room met s ending is = inr (new_logs, inl is)
+
+-- somebody listens, and nothing was told yet
+pub listens : (old new : Outcome) → old.text ≡ [] → new ≡ record old { takers = listen old.takers } → IsSilent new
+listens old new none is =
+    record { text = ap (λ (o : Outcome). o.text) is ∙ none; heard = ap (λ (o : Outcome). o.takers.heard) is }
 
 module _ {D : Type 0} (given : Giving D) (facts : DiskFacts D) (s : Setup) where
   -- ---- its parts were done, or it stopped in one

@@ -6,17 +6,17 @@ use Rattle.std.specs.List.{AllByRecursion}
 use Rattle.qq_base.specs.Causes.{Rose}
 use Rattle.qq_disk.specs.Facts.{DiskFacts}
 use Rattle.qq_log.specs.Stable.{Stable}
-use Rattle.qq_ports.specs.Streams.{SinkFails, SinkState, Streams, Writes}
+use Rattle.qq_ports.specs.Streams.{SinkFails, Streams, Writes}
 use Rattle.qq_script_lines.specs.declared.line.ScriptLine.{ScriptLine}
 use Rattle.qq_script_lines.specs.declared.line.ScriptLine.TheVariants.{Attach, Crash, Restart}
 use Rattle.qq_setup.specs.Setup.{state_of}
 use Rattle.qq_setup.specs.declared.setup.Setup.{Setup}
-use Rattle.qq_cluster.specs.Cluster.{ClusterEvent, Setup as ClusterSetup}
+use Rattle.qq_cluster.specs.Cluster.{Cluster, ClusterEvent, Setup as ClusterSetup}
 use Rattle.qq_cluster_run.specs.Drilling.{drill_setup, drill_text, parts}
 use Rattle.qq_cluster_run.specs.Drills.{DrillEnds, Drilled, HasDrilled, HasSummary, StopsNext, cluster_drilled, setup_drilled}
 use Rattle.qq_cluster_run.specs.Endings.{Ending, lost, no_memory, spent, yard_fault}
 use Rattle.qq_cluster_run.specs.Runs.{Closes, MayNotOpen}
-use Rattle.qq_cluster_run.specs.Serving.{EndsDamaged, EndsLost, EndsSpent, EndsUnsupported, Histories, IsAtEnd, IsReadOf, MayStop, StopsAt}
+use Rattle.qq_cluster_run.specs.Serving.{EndsDamaged, EndsLost, EndsSpent, EndsUnsupported, Histories, IsAtEnd, IsReadOf, StopsAt}
 use Rattle.qq_cluster_run.specs.Setup.{cluster_over, cluster_setup}
 use Rattle.qq_cluster_run.specs.Troubles.{Damage, AtPlace, OfVersion, DiskFails, FilesBreak, NumberEnds, QueueIsFound, TakerIsGone, Trouble, YardFails, damage_ending}
 use Rattle.qq_broker.specs.Lives.{Giving, IsGiven}
@@ -35,8 +35,8 @@ data Cause (met : Trouble → Type 0) (ending : Ending) : Type 0 where
   NumberStands : (setup : ClusterSetup) (events : List ClusterEvent) (number : ℕ)
       → met (NumberEnds setup events number) → IsAtEnd number → ending ≡ spent number → Cause met ending
 
-of-spent : (met : Trouble → Type 0) (setup : ClusterSetup) (Allows : _) (events : List ClusterEvent) (ending : Ending)
-    → EndsSpent met setup Allows events ending → Cause met ending
+of-spent : (met : Trouble → Type 0) (setup : ClusterSetup) (Allows : Cluster → List ClusterEvent → Type 0)
+    (events : List ClusterEvent) (ending : Ending) → EndsSpent met setup Allows events ending → Cause met ending
 of-spent met setup Allows events ending so =
     NumberStands setup (events ++ so.early) so.number so.stands so.past so.is
 
