@@ -1,5 +1,5 @@
 -- What the leader's machine counts is what the definition counts.
-use Rattle.std.proofs.Common.{◌≡◌, ℕ, ◌+◌, ◌-◌, ◌^◌, Bool, true, cond, List, length, map, Option, Some, None, refl, sym, ap, ◌∙◌}
+use Rattle.std.proofs.Common.{◌≡◌, ℕ, ◌+◌, ◌-◌, ◌^◌, Bool, true, cond, length, Option, Some, None, refl, sym, ap, ◌∙◌}
 use Rattle.std.specs.Prelude.{count_by, is_none, min, not}
 use Rattle.std.specs.Option.{option_map}
 use Rattle.std.proofs.lemmas.List.Folds.{fold-map}
@@ -8,14 +8,14 @@ use Rattle.qq_entry.specs.declared.queue.QueueArgs.{QueueArgs}
 use Rattle.qq_machine.specs.Reads.{is_current}
 use Rattle.qq_model.specs.State.{State}
 use Rattle.qq_model.specs.declared.consumer.Consumer.{Consumer}
-use Rattle.qq_parts.specs.Parts.{Parts, Served, consumer_at}
+use Rattle.qq_parts.specs.Parts.{Parts, consumer_at}
 use Rattle.qq_parts.specs.Reads.{ready_items}
 use Rattle.qq_raft_core.specs.Raft.{server_of}
 use Rattle.qq_raft_model.specs.State.{Server as Raft}
 use Rattle.qq_raft_queues.specs.StandsFor.{StandsFor}
 use Rattle.qq_raft_queues.specs.declared.machine_queue.MachineQueue.{MachineQueue}
 use Rattle.qq_group.specs.Group.{server_at}
-use Rattle.qq_group.specs.Reads.{leader_of, machine_at, machine_of}
+use Rattle.qq_group.specs.Reads.{leader_of, machine_of}
 use Rattle.qq_cluster.specs.Counts.{counts, counts_by, counts_of}
 use Rattle.qq_cluster.specs.Delivering.{applied_by}
 use Rattle.qq_cluster.specs.Queue.{Queue, leader, server_of as server_in}

@@ -1,5 +1,5 @@
 -- How many rows audits have, and how many of them confirm a publish.
-use Rattle.std.specs.Prelude.{ℕ, ◌+◌, List, count_by, length}
+use Rattle.std.specs.Prelude.{◌+◌, List, count_by, length}
 use Rattle.qq_entry.specs.declared.audit.AuditRow.{AuditRow}
 use Rattle.qq_cluster.specs.Confirmed.{is_confirmed_row}
 use Rattle.qq_cluster_queue.specs.declared.tally.Tally.{Tally}

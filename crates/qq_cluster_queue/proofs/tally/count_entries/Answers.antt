@@ -5,7 +5,6 @@ use Rattle.qq_model.specs.Audit.{audit_of, state_after}
 use Rattle.qq_model.specs.State.{State}
 use Rattle.qq_cluster_queue.specs.Members.{queue_stands}
 use Rattle.qq_cluster_queue.specs.Tally.{count_rows}
-use Rattle.qq_cluster_queue.specs.declared.tally.Tally.{Tally}
 use Rattle.qq_cluster_queue.proofs.Auditing.{row-next, state-next}
 use Rattle.qq_cluster_queue.proofs.Tallies.{counted-both}
 use Rattle.qq_cluster_queue.proofs.tally.count_entries.Goals as goal
