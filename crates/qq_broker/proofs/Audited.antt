@@ -62,7 +62,7 @@ module _ {D : Type 0} (tells : D → Bool) (past : D → List Disk) (faults : D 
       queue-there given tells past faults s run held row.args.queue h
       (subst (λ (l : List QueueRow). Contains (map place_of l) (place_of row)) are (has_place rows i row lt is))
 
-  row-adds : (rows : List QueueRow) (i : ℕ) (row : QueueRow) (before later : List ℕ) → MayRun s → IsRowAt rows i row
+  pub row-adds : (rows : List QueueRow) (i : ℕ) (row : QueueRow) (before later : List ℕ) → MayRun s → IsRowAt rows i row
       → AddsAudit row before later → (given : Giving D) (run : Run) → Holds given tells past faults s held run
       → later ≡ before ++ row_audit (cluster_in s run) row
   row-adds rows i row before later runs (are, lt, is) adds given run h =

@@ -143,7 +143,7 @@ module _ {D : Type 0} (given : Giving D) (tells : D → Bool) (past : D → List
             (
               so.last,
               seven disk cut.ending before.sink later.sink
-          (λ more. Writes before.sink later.sink (dump_text cut.front ++ more)) cut.may
+                  (λ more. Writes before.sink later.sink (dump_text cut.front ++ more)) cut.may
                   cut.closes,
             ),
           )

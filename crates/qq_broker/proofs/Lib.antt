@@ -26,6 +26,7 @@ pub mod DrillAudits
 pub mod DrillEnds
 pub mod DrillLoops
 pub mod DrillStops
+pub mod DrillTold
 pub mod Drilled
 pub mod Dumped
 pub mod Opened

@@ -14,7 +14,7 @@ use Rattle.qq_cluster_run.specs.Answers.{Answers, HasAnswerCause, IsServedToEnd}
 use Rattle.qq_cluster_run.specs.Endings.{Ending}
 use Rattle.qq_cluster_run.specs.Reading.{Ends, says}
 use Rattle.qq_cluster_run.specs.Runs.{BreaksOff, EndsBy, HasAnswers, HasStopped, IsCut, MayEnd, stop_of}
-use Rattle.qq_cluster_run.specs.Serving.{Claims, Histories, Run}
+use Rattle.qq_cluster_run.specs.Serving.{Claims, Histories}
 use Rattle.qq_cluster_run.proofs.Ahead.{Going, going_reads, going_stops, going_too_long, waiting_breaks}
 use Rattle.qq_cluster_run.proofs.Answering.{IsSoAt, answer_stops}
 use Rattle.qq_cluster_run.proofs.Looping.{LoopsOn, loops_end, loops_line, loops_written}

@@ -1,5 +1,5 @@
 //! The audits of a run's queues.
-ghost use Rattle.std.specs.Prelude.{◌≡◌, ◌≤◌, ◌++◌, ℕ, IfErr, OnErr, OnOk};
+ghost use Rattle.std.specs.Prelude.{◌≤◌, IfErr, OnErr, OnOk};
 ghost use Rattle.qq_base.specs.Causes.{HasCause};
 ghost use Rattle.qq_ports.specs.Faults.{IsCaused};
 ghost use Rattle.qq_ports.specs.Streams.{Writes, sink_state};

@@ -150,13 +150,13 @@ fn open_drill<Y: Yard, T: Taker, O: Sink>(
     alloc: Global,
     setup: &Setup,
     number: u64,
-    parts: &[Part],
+    list: &[Part],
     play: Play,
     yard: &mut Y,
     output: &mut O,
 ) -> u8
     requires may { MayRun setup.now }
-    requires parts { parts.now ≡ parts setup.now.nodes }
+    requires parts { list.now ≡ parts setup.now.nodes }
     requires knows { Knows play (first_known number setup.now.nodes) }
     ensures ends { (source : SourceState) → HasDrilled result number setup.now
         (beside source O.written O.faults output.old) (beside source O.written O.faults output.new)
@@ -182,7 +182,7 @@ fn open_drill<Y: Yard, T: Taker, O: Sink>(
         drop(play);
         return close(output, Ending::no_memory());
     }
-    serve_drill::<Y, T, O>(alloc, setup, number, parts, &mut nodes, yard, &mut told, play, output)
+    serve_drill::<Y, T, O>(alloc, setup, number, list, &mut nodes, yard, &mut told, play, output)
 }
 
 // Makes what a drill of this setup needs, and runs it.

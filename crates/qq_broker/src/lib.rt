@@ -8,6 +8,7 @@ mod broker;
 mod call_laws;
 mod calling;
 mod disk_laws;
+mod drill_laws;
 mod drilling;
 mod drills;
 mod dumping;
@@ -35,6 +36,7 @@ pub use disk_laws::{
     disks_keep_what_was_promised, what_is_met_is_what_recovery_reads,
     without_junk_nothing_is_damaged_or_lost,
 };
+pub use drill_laws::a_drill_tells_what_was_done;
 pub use faults::{OpenFault, StepFault};
 pub use laws::{a_dump_tells_what_was_done, a_run_without_a_root_begins_with_new_logs};
 pub use over_disks::{open_disks, reopen_disks};

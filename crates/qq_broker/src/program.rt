@@ -1,9 +1,8 @@
-ghost use Rattle.std.specs.Prelude.{◌≡◌, ◌≤◌, ◌<◌, ◌++◌, ℕ, List, [], None, Some, map, string_bytes, IfOk, IfErr, IfSome, OnOk, OnErr};
-ghost use Rattle.qq_cluster.specs.Texts.{audits_text};
+ghost use Rattle.std.specs.Prelude.{◌≡◌, ◌≤◌, ◌<◌, [], None, Some, map, string_bytes, IfOk, IfErr, OnOk};
 ghost use Rattle.qq_cluster_run.specs.Answers.{Answers, HasAnswerCause, IsServedToEnd};
 ghost use Rattle.qq_cluster_run.specs.Runs.{HasStopped, IsDone, Closes, HasBegun, HasRun, RunEnds};
 ghost use Rattle.qq_cluster_run.specs.Service.{HasOpened};
-ghost use Rattle.qq_cluster_run.specs.Serving.{Run, cluster_in, setup_in};
+ghost use Rattle.qq_cluster_run.specs.Serving.{Run};
 ghost use Rattle.qq_cluster_run.specs.declared.status.TheConstants.{DONE};
 ghost use Rattle.qq_ports.specs.Streams.{AreLater, Writes, shelf_state, sink_state, streams};
 ghost use Rattle.qq_words.specs.Words.{read_words};

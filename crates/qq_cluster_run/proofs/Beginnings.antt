@@ -1,9 +1,8 @@
 -- How a run begins.
 use Rattle.std.proofs.Common.{◌≡◌, ℕ, ◌≤◌, List, Option, Some, None, inl, inr, refl, subst}
-use Rattle.std.specs.Prelude.{IfSome}
 use Rattle.std.proofs.lemmas.Option.{IfSome_then}
 use Rattle.std.specs.Io.KnownBytes.{Appends, Keeps}
-use Rattle.qq_ports.specs.Streams.{SinkFails, SinkState, SourceState, Writes, with_written}
+use Rattle.qq_ports.specs.Streams.{SinkFails, SinkState, SourceState, Writes}
 use Rattle.qq_setup.specs.declared.setup.Setup.{Setup}
 use Rattle.qq_cluster_run.specs.Definitions.{made_text}
 use Rattle.qq_cluster_run.specs.Endings.{Ending}

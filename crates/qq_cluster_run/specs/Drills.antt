@@ -9,7 +9,7 @@ use Rattle.qq_cluster.specs.Lines.{IsScript}
 use Rattle.qq_cluster.specs.Rules.{IsOpening}
 use Rattle.qq_cluster_run.specs.declared.drilling.Part.{Part}
 use Rattle.qq_cluster_run.specs.declared.status.TheConstants.{DONE, WRITE_FAULT}
-use Rattle.qq_cluster_run.specs.Drilling.{AreParts, Known, begin_part, drill_setup, drill_text, first_known, is_led, know, part_lines, parts}
+use Rattle.qq_cluster_run.specs.Drilling.{AreParts, Known, drill_setup, drill_text, first_known, is_led, know, part_lines, parts}
 use Rattle.qq_cluster_run.specs.Endings.{Ending, no_memory}
 use Rattle.qq_cluster_run.specs.Runs.{Closes, IsUnopened, MayNotOpen}
 use Rattle.qq_cluster_run.specs.Serving.{HasRecovered, Histories, MayStop, after_all}
