@@ -1,5 +1,5 @@
 -- What a call of nodes has done, as its line asks.
-use Rattle.std.proofs.Common.{◌≡◌, ◌+◌, ℕ, Bool, List, [], ◌++◌, Result, refl, sym, subst, append-nil}
+use Rattle.std.proofs.Common.{◌≡◌, ◌+◌, ℕ, List, [], ◌++◌, Result, refl, sym, subst, append-nil}
 use Rattle.std.specs.Prelude.{IfErr, IsOkUnless, OnOk}
 use Rattle.std.proofs.lemmas.Result.{IfErr-weaker, on_ok_weaker}
 use Rattle.qq_base.specs.Ids.{client}
@@ -7,7 +7,7 @@ use Rattle.qq_base.specs.declared.ids.QueueId.{QueueId}
 use Rattle.qq_base.specs.declared.ids.SessionId.{SessionId}
 use Rattle.qq_base.specs.declared.memory.Memory.{Memory}
 use Rattle.qq_base.specs.declared.memory.Memory.TheVariants.{Want, Spent}
-use Rattle.qq_disk.specs.Disk.{Disk}
+use Rattle.qq_disk.specs.Facts.{DiskFacts}
 use Rattle.qq_entry.specs.declared.command.Unstamped.{Unstamped}
 use Rattle.qq_script_lines.specs.declared.line.ScriptLine.{ScriptLine}
 use Rattle.qq_script_lines.specs.declared.line.ScriptLine.TheVariants.{Nothing, Publish, Send}
@@ -43,54 +43,50 @@ want-given-up met setup events line r want =
     IfErr-weaker r _ (IsGivenUp met setup events line)
     (λ memory is. subst (IsGivenUp met setup events line) (sym is) tt) want
 
-module _ {D : Type 0} (given : Giving D) (tells : D → Bool) (past : D → List Disk) (faults : D → ℕ)
-    (s : Setup) where
+module _ {D : Type 0} (given : Giving D) (facts : DiskFacts D) (s : Setup) where
   -- by a rule that is the line's
   pub all-served : {T : Type 0} (line : ScriptLine) (r : Result T Memory) (old new : Nodes D) (before later : Outcome)
-      → OnOk r (Served tells past faults (of_line line) old new before later) → (run : Run)
-      → Holds given tells past faults s old run → OnOk r (IsServed given tells past faults s run line new before later)
+      → OnOk r (Served facts (of_line line) old new before later) → (run : Run)
+      → Holds given facts s old run → OnOk r (IsServed given facts s run line new before later)
   all-served line r old new before later so = λ run h.
       on_ok_weaker r
-      (λ sv. served given tells past faults s run line (of_line line) old new before later h (λ events allowed. allowed)
-      sv) so
+      (λ sv. served given facts s run line (of_line line) old new before later h (λ events allowed. allowed) sv) so
 
   -- of a call that has no result
   pub just-served : (line : ScriptLine) (old new : Nodes D) (before later : Outcome)
-      → Served tells past faults (of_line line) old new before later → (run : Run)
-      → Holds given tells past faults s old run
-      → IsServed given tells past faults s run line new before later
+      → Served facts (of_line line) old new before later → (run : Run) → Holds given facts s old run
+      → IsServed given facts s run line new before later
   just-served line old new before later so = λ run h.
-      served given tells past faults s run line (of_line line) old new before later h (λ events allowed. allowed) so
+      served given facts s run line (of_line line) old new before later h (λ events allowed. allowed) so
 
   pub all-given-up : {T : Type 0} (line : ScriptLine) (r : Result T Memory) (old left : Nodes D)
-      → IfErr r (GaveUp tells past faults (of_line line) old left) → (run : Run) (before after : ℕ)
-      → Holds given tells past faults s old run
-      → IfErr r (IsGivenUp (Meets given tells past faults before after) (setup_in s run) run.events line)
+      → IfErr r (GaveUp facts (of_line line) old left) → (run : Run) (before after : ℕ) → Holds given facts s old run
+      → IfErr r (IsGivenUp (Meets given facts before after) (setup_in s run) run.events line)
   all-given-up line r old left so = λ run before after h.
-      IfErr-weaker r (GaveUp tells past faults (of_line line) old left)
-      (IsGivenUp (Meets given tells past faults before after) (setup_in s run) run.events line)
-      (λ memory sv. given-up given tells past faults s run line (of_line line) old left before after memory h
+      IfErr-weaker r (GaveUp facts (of_line line) old left)
+      (IsGivenUp (Meets given facts before after) (setup_in s run) run.events line)
+      (λ memory sv. given-up given facts s run line (of_line line) old left before after memory h
       (λ c events allowed. allowed) sv) so
 
   -- ---- nothing is asked
 
   same-run : (held : Nodes D) (run : Run) (lines : ℕ) (events : List ClusterEvent) → events ≡ run.events
-      → Holds given tells past faults s held run
-      → Holds given tells past faults s held (record { lines = lines; logs = run.logs; events = events })
+      → Holds given facts s held run
+      → Holds given facts s held (record { lines = lines; logs = run.logs; events = events })
   same-run held run lines events is h =
-      subst (λ (l : List ClusterEvent). Holds given tells past faults s held
+      subst (λ (l : List ClusterEvent). Holds given facts s held
       (record { lines = lines; logs = run.logs; events = l }))
       (sym is) (record { stands = h.stands; restarted = h.restarted; disks = h.disks })
 
-  pub nothing-served : (held : Nodes D) (told : Outcome) (run : Run) → Holds given tells past faults s held run
-      → IsServed given tells past faults s run Nothing held told told
+  pub nothing-served : (held : Nodes D) (told : Outcome) (run : Run) → Holds given facts s held run
+      → IsServed given facts s run Nothing held told told
   unfolding IsLine
   nothing-served held told run h =
       let next = same-run held run (run.lines + 1) (run.events ++ []) (append-nil run.events) h in
       record {
         more = [];
         allowed = refl;
-        disks = had-so given tells past faults s held (run_after run (run.events ++ [])) next;
+        disks = had-so given facts s held (run_after run (run.events ++ [])) next;
         stands = next;
         says = sym (append-nil told.text);
         sees = refl;
@@ -118,36 +114,33 @@ module _ {D : Type 0} (given : Giving D) (tells : D → Bool) (past : D → List
   pub sent : {T : Type 0} (by : SessionId) (exchange key body : List ℕ) (command : Unstamped) (queues : List QueueId)
       (r : Result T Memory) (old new : Nodes D) (before later : Outcome) → command ≡ publish_with key body
       → numbers_of queues ≡ places_for (state_of s).table exchange key
-      → OnOk r (Served tells past faults (Routed by command queues) old new before later) → (run : Run)
-      → Holds given tells past faults s old run
-      → OnOk r (IsServed given tells past faults s run (Send by exchange key body) new before later)
+      → OnOk r (Served facts (Routed by command queues) old new before later) → (run : Run)
+      → Holds given facts s old run → OnOk r (IsServed given facts s run (Send by exchange key body) new before later)
   sent by exchange key body command queues r old new before later is are so = λ run h.
       on_ok_weaker r
-      (λ sv. served given tells past faults s run (Send by exchange key body) (Routed by command queues) old new before
+      (λ sv. served given facts s run (Send by exchange key body) (Routed by command queues) old new before
       later h (routed run by exchange key body command queues is are _) sv) so
 
   pub sent-in-vain : {T : Type 0} (by : SessionId) (exchange key body : List ℕ) (command : Unstamped)
       (queues : List QueueId) (r : Result T Memory) (old left : Nodes D) → command ≡ publish_with key body
       → numbers_of queues ≡ places_for (state_of s).table exchange key
-      → IfErr r (GaveUp tells past faults (Routed by command queues) old left) → (run : Run) (before after : ℕ)
-      → Holds given tells past faults s old run
-      → IfErr r (IsGivenUp (Meets given tells past faults before after) (setup_in s run) run.events
+      → IfErr r (GaveUp facts (Routed by command queues) old left) → (run : Run) (before after : ℕ)
+      → Holds given facts s old run → IfErr r (IsGivenUp (Meets given facts before after) (setup_in s run) run.events
       (Send by exchange key body))
   sent-in-vain by exchange key body command queues r old left is are so = λ run before after h.
-      IfErr-weaker r (GaveUp tells past faults (Routed by command queues) old left)
-      (IsGivenUp (Meets given tells past faults before after) (setup_in s run) run.events (Send by exchange key body))
-      (λ memory sv. given-up given tells past faults s run (Send by exchange key body) (Routed by command queues) old
-      left before after memory h (routed run by exchange key body command queues is are) sv) so
+      IfErr-weaker r (GaveUp facts (Routed by command queues) old left)
+      (IsGivenUp (Meets given facts before after) (setup_in s run) run.events (Send by exchange key body))
+      (λ memory sv. given-up given facts s run (Send by exchange key body) (Routed by command queues) old left before
+      after memory h (routed run by exchange key body command queues is are) sv) so
 
   -- ---- a line that is as another one
 
   pub served-as : {T : Type 0} (line other : ScriptLine) (r : Result T Memory) (held : Nodes D) (before later : Outcome)
       (run : Run) → IsAs line other (setup_in s run) → OnOk r
-      (IsServed given tells past faults s run line held before later)
-      → OnOk r (IsServed given tells past faults s run other held before later)
+      (IsServed given facts s run line held before later) → OnOk r (IsServed given facts s run other held before later)
   served-as line other r held before later run same =
       on_ok_weaker r
-      (λ (so : IsServed given tells past faults s run line held before later). record {
+      (λ (so : IsServed given facts s run line held before later). record {
         more = so.more;
         allowed = same (cluster_in s run) so.more so.allowed;
         disks = so.disks;

@@ -1,7 +1,7 @@
 -- Audits are written row by row.
-use Rattle.std.proofs.Common.{◌≡◌, ◌<◌, ◌≤◌, ◌+◌, ℕ, Bool, List, [], ◌++◌, drop, flat_map, get_or, length, map, sym, ap, subst, ◌∙◌}
+use Rattle.std.proofs.Common.{◌≡◌, ◌<◌, ◌≤◌, ◌+◌, ℕ, List, [], ◌++◌, drop, flat_map, get_or, length, map, sym, ap, subst, ◌∙◌}
 use Rattle.std.specs.Prelude.{Contains}
-use Rattle.qq_disk.specs.Disk.{Disk}
+use Rattle.qq_disk.specs.Facts.{DiskFacts}
 use Rattle.qq_ports.specs.Streams.{SinkState, Writes, WritesPart}
 use Rattle.qq_script.specs.Audit.{audit_text}
 use Rattle.qq_setup.specs.declared.queue_row.QueueRow.{QueueRow}
@@ -25,10 +25,10 @@ use Rattle.qq_broker.proofs.Rows.{row-named}
 abbrev pub audits_of : Setup → Run → List ℕ
 audits_of s run = audits_text (setup_in s run) (cluster_in s run)
 
-module _ {D : Type 0} (tells : D → Bool) (past : D → List Disk) (faults : D → ℕ) (s : Setup) (held : Nodes D) where
+module _ {D : Type 0} (facts : DiskFacts D) (s : Setup) (held : Nodes D) where
   -- of whatever run they stand for
   abbrev pub OfRuns : (Run → Type 0) → Type 0
-  OfRuns Is = (given : Giving D) (run : Run) → Holds given tells past faults s held run → Is run
+  OfRuns Is = (given : Giving D) (run : Run) → Holds given facts s held run → Is run
 
   -- all was written but what stands in a text, and the audits of the rows from one on
   abbrev pub AuditsOn : (a b : SinkState) (said : List ℕ) (rows : List QueueRow) (i : ℕ) → Type 0
@@ -52,18 +52,18 @@ module _ {D : Type 0} (tells : D → Bool) (past : D → List Disk) (faults : D 
   -- what is added of its queue is the audit
   abbrev pub AddsAudit : QueueRow → (before later : List ℕ) → Type 0
   AddsAudit row before later =
-      (setup : ClusterSetup) (c : Cluster) → Stands tells past setup held c
+      (setup : ClusterSetup) (c : Cluster) → Stands facts setup held c
       → later ≡ before ++ audit_text (setup.name (place_of row)) 0 (audit_rows (c.queue (place_of row)))
 
   pub audit-there : (rows : List QueueRow) (i : ℕ) (row : QueueRow) → IsRowAt rows i row → (given : Giving D)
       (run : Run)
-      → Holds given tells past faults s held run → IsQueueAt row.args.queue held
+      → Holds given facts s held run → IsQueueAt row.args.queue held
   audit-there rows i row (are, lt, is) given run h =
-      queue-there given tells past faults s run held row.args.queue h
+      queue-there given facts s run held row.args.queue h
       (subst (λ (l : List QueueRow). Contains (map place_of l) (place_of row)) are (has_place rows i row lt is))
 
   pub row-adds : (rows : List QueueRow) (i : ℕ) (row : QueueRow) (before later : List ℕ) → MayRun s → IsRowAt rows i row
-      → AddsAudit row before later → (given : Giving D) (run : Run) → Holds given tells past faults s held run
+      → AddsAudit row before later → (given : Giving D) (run : Run) → Holds given facts s held run
       → later ≡ before ++ row_audit (cluster_in s run) row
   row-adds rows i row before later runs (are, lt, is) adds given run h =
       let c : Cluster = cluster_in s run in
@@ -76,7 +76,7 @@ module _ {D : Type 0} (tells : D → Bool) (past : D → List Disk) (faults : D 
   -- it moves from what is left to the text
   row-moves : (a b : SinkState) (said text : List ℕ) (rows : List QueueRow) (i : ℕ) (row : QueueRow) → MayRun s
       → IsRowAt rows i row → AuditsOn a b said rows i → AddsAudit row said text → (given : Giving D) (run : Run)
-      → Holds given tells past faults s held run
+      → Holds given facts s held run
       → HasPrefix a b (audits_of s run) (text ++ flat_map (row_audit (cluster_in s run)) (drop (i + 1) rows))
   row-moves a b said text rows i row runs at so adds given run h =
       subst
@@ -110,7 +110,7 @@ module _ {D : Type 0} (tells : D → Bool) (past : D → List Disk) (faults : D 
 
   -- behind the last row all was added
   audits-last : (a b : SinkState) (said : List ℕ) (rows : List QueueRow) (i : ℕ) → length rows ≤ i
-      → AuditsOn a b said rows i → (given : Giving D) (run : Run) → Holds given tells past faults s held run
+      → AuditsOn a b said rows i → (given : Giving D) (run : Run) → Holds given facts s held run
       → HasPrefix a b (audits_of s run) said
   audits-last a b said rows i le so given run h =
       last_item (row_audit (cluster_in s run)) a b (audits_of s run) said rows i le (so given run h)

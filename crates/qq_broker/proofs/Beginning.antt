@@ -15,6 +15,7 @@ use Rattle.qq_base.specs.declared.ids.QueueId.{QueueId}
 use Rattle.qq_defs.specs.Runnable.{AreQueuesAfter}
 use Rattle.qq_disk.specs.Crash.{Remains, reopen}
 use Rattle.qq_disk.specs.Disk.{Disk, now}
+use Rattle.qq_disk.specs.Facts.{DiskFacts}
 use Rattle.qq_log.specs.declared.op.Op.{Op}
 use Rattle.qq_log.specs.declared.op.Op.TheVariants.{Change, SnapshotMade, SegmentMade}
 use Rattle.qq_ports.specs.Yard.{IsNew, IsOpened}
@@ -264,8 +265,8 @@ last-at (z ∷ xs) x y (suc at) is =
       | inr last ↦ inr (ap suc last.0, last.1)
     ]
 
-module _ {D : Type 0} (is_given : Option (List ℕ) → ℕ → D → Bool) (tells : D → Bool) (past : D → List Disk) {A : Type 0}
-    (text : A → List ℕ) (root : Option A) where
+module _ {D : Type 0} (is_given : Option (List ℕ) → ℕ → D → Bool) (facts : DiskFacts D) {A : Type 0} (text : A → List ℕ)
+    (root : Option A) where
   new-by : (P : Type 0) → IfNone root P → IfNone (option_map text root) P
   new-by P so = by root so
     where
@@ -273,45 +274,44 @@ module _ {D : Type 0} (is_given : Option (List ℕ) → ℕ → D → Bool) (tel
       by None so = so
       by (Some a) so = tt
 
-  pub given-more : (disks : List D) (d : D) → AreGiven (under is_given (option_map text root)) tells past disks
-      → is_given (option_map text root) (length disks + 1) d ≡ true → (IsTrue (tells d) → IsOpened (past d))
-      → IfNone root (IsTrue (tells d) → IsNew (past d))
-      → (more : List D) → more ≡ disks ++ d ∷ [] → AreGiven (under is_given (option_map text root)) tells past more
+  pub given-more : (disks : List D) (d : D) → AreGiven (under is_given (option_map text root)) facts disks
+      → is_given (option_map text root) (length disks + 1) d ≡ true → (IsTrue (facts.tells d) → IsOpened (facts.past d))
+      → IfNone root (IsTrue (facts.tells d) → IsNew (facts.past d))
+      → (more : List D) → more ≡ disks ++ d ∷ [] → AreGiven (under is_given (option_map text root)) facts more
   given-more disks d each asked opened new more are = λ i disk here.
       by i disk (last-at disks d disk i (subst (λ (l : List D). slice_get l i ≡ Some disk) are here))
     where
-      own : IsGiven (under is_given (option_map text root)) tells past (length disks + 1) d
-      own = record { asked = asked; opened = opened; new = new-by (IsTrue (tells d) → IsNew (past d)) new }
+      own : IsGiven (under is_given (option_map text root)) facts (length disks + 1) d
+      own = record { asked = asked; opened = opened; new = new-by (IsTrue (facts.tells d) → IsNew (facts.past d)) new }
 
       by : (i : ℕ) (disk : D) → (slice_get disks i ≡ Some disk) ⊎ ((i ≡ length disks) × (disk ≡ d))
-          → IsGiven (under is_given (option_map text root)) tells past (i + 1) disk
+          → IsGiven (under is_given (option_map text root)) facts (i + 1) disk
       by i disk (inl there) = each i disk there
       by i disk (inr last) =
-          subst (λ (x : D). IsGiven (under is_given (option_map text root)) tells past (i + 1) x) (sym last.1)
-          (subst (λ (n : ℕ). IsGiven (under is_given (option_map text root)) tells past (n + 1) d) (sym last.0) own)
+          subst (λ (x : D). IsGiven (under is_given (option_map text root)) facts (i + 1) x) (sym last.1)
+          (subst (λ (n : ℕ). IsGiven (under is_given (option_map text root)) facts (n + 1) d) (sym last.0) own)
 
 -- ---- the disks
 
-module _ {D : Type 0} (given : Giving D) (tells : D → Bool) (past : D → List Disk) (faults : D → ℕ) (s : Setup)
-    (disks : List D) (held : Nodes D) (many : length disks ≡ s.nodes) (each : AreGiven given tells past disks)
-    (have : HaveDisks tells past faults disks held) where
-  have-given : HaveGiven given tells past faults s held
+module _ {D : Type 0} (given : Giving D) (facts : DiskFacts D) (s : Setup) (disks : List D) (held : Nodes D)
+    (many : length disks ≡ s.nodes) (each : AreGiven given facts disks) (have : HaveDisks facts disks held) where
+  have-given : HaveGiven given facts s held
   have-given k there =
       let within = in-range k 1 s.nodes there in
       at (slice_get_cases disks (k - 1)).1 (omega (arith, within.0)) (omega (arith, many, within.0, within.1))
     where
       at : ((x : D) × (k - 1 < length disks) × (slice_get disks (k - 1) ≡ Some x) × (get_or disks (k - 1) x ≡ x))
           ⊎ ((length disks ≤ k - 1) × (slice_get disks (k - 1) ≡ None)) → k - 1 + 1 ≡ k → k - 1 < length disks
-          → (d : D) × IsDiskOf tells past faults held k d × IsGiven given tells past k d
+          → (d : D) × IsDiskOf facts held k d × IsGiven given facts k d
       at (inl (d, lt, here, is)) same within = (
         d,
-        subst (λ (n : ℕ). IsDiskOf tells past faults held n d) same (have (k - 1) d here),
-        subst (λ (n : ℕ). IsGiven given tells past n d) same (each (k - 1) d here),
+        subst (λ (n : ℕ). IsDiskOf facts held n d) same (have (k - 1) d here),
+        subst (λ (n : ℕ). IsGiven given facts n d) same (each (k - 1) d here),
       )
       at (inr (out, none)) same within = absurd (omega (arith, out, within))
 
-  pub unopened : Stands tells past (cluster_setup s) held (new_cluster (cluster_setup s)) → AreNew tells past s.queues held
-      → AreUnopened given tells past faults s held
+  pub unopened : Stands facts (cluster_setup s) held (new_cluster (cluster_setup s)) → AreNew facts s.queues held
+      → AreUnopened given facts s held
   unopened stands new = record { stands = stands; new = new; disks = have-given }
 
 -- as many and one more
@@ -323,7 +323,7 @@ whole-more {D} P disks d each own more are = (
 )
 
 -- a disk that was just opened may be recovered
-pub opened-whole : ((queues : List QueueId) (i : Remains) → MayRecover queues (reopen i)) → {D : Type 0} (tells : D → Bool)
-    (past : D → List Disk) (d : D) → (IsTrue (tells d) → IsOpened (past d)) → IsWhole tells past d
-opened-whole may tells past d opened queues tell =
+pub opened-whole : ((queues : List QueueId) (i : Remains) → MayRecover queues (reopen i)) → {D : Type 0}
+    (facts : DiskFacts D) (d : D) → (IsTrue (facts.tells d) → IsOpened (facts.past d)) → IsWhole facts d
+opened-whole may facts d opened queues tell =
     let so = opened tell in subst (λ (l : List Disk). MayRecover queues (now l)) (sym so.is) (may queues so.held)

@@ -1,5 +1,5 @@
 -- A broker is called: what is heard of a command that is given, and of the pump after it.
-use Rattle.std.proofs.Common.{◌≡◌, ◌+◌, ℕ, Bool, List, [], ◌∷◌, ◌++◌, Option, Some, refl, sym, ap, subst, ◌∙◌, append_assoc, append-nil}
+use Rattle.std.proofs.Common.{◌≡◌, ◌+◌, ℕ, List, [], ◌∷◌, ◌++◌, Option, Some, refl, sym, ap, subst, ◌∙◌, append_assoc, append-nil}
 use Rattle.std.specs.Prelude.{filter, filter_map, not}
 use Rattle.std.specs.Option.{option_map}
 use Rattle.std.proofs.lemmas.List.Elements.{filter-append, filter_map-append}
@@ -7,7 +7,7 @@ use Rattle.qq_base.specs.declared.ids.QueueId.{QueueId}
 use Rattle.qq_base.specs.declared.ids.SessionId.{SessionId}
 use Rattle.qq_base.specs.declared.memory.Memory.{Memory}
 use Rattle.qq_base.specs.declared.memory.Memory.TheVariants.{Want, Spent}
-use Rattle.qq_disk.specs.Disk.{Disk}
+use Rattle.qq_disk.specs.Facts.{DiskFacts}
 use Rattle.qq_entry.specs.declared.audit.AuditRow.{AuditRow}
 use Rattle.qq_entry.specs.declared.command.Unstamped.{Unstamped}
 use Rattle.qq_setup.specs.declared.setup.Setup.{Setup}
@@ -163,73 +163,71 @@ listened hears alike setup c early late before first told between last later ask
 
 -- ---- a call that is given up
 
-module _ {D : Type 0} (tells : D → Bool) (past : D → List Disk) (faults : D → ℕ) (session : ℕ) (body : Unstamped)
-    (place : ℕ) where
+module _ {D : Type 0} (facts : DiskFacts D) (session : ℕ) (body : Unstamped) (place : ℕ) where
   abbrev Gives : ClusterSetup → Cluster → List ClusterEvent → Type 0
   Gives setup = IsGiven session body place
 
-  pub stops-first : (old new : Nodes D) (memory : Memory) → GaveUp tells past faults Gives old new memory
-      → StopsCall tells past faults session body place old memory
+  pub stops-first : (old new : Nodes D) (memory : Memory) → GaveUp facts Gives old new memory
+      → StopsCall facts session body place old memory
   stops-first old new Want so = tt
   stops-first old new (Spent number) so =
       (gave_up-first {First = Gives} {Second = IsPump} (λ setup. total-pumps most_rounds setup) so).spent number refl
 
   pub stops-second : (old mid new : Nodes D) (before middle : Outcome) (memory : Memory)
-      → Served tells past faults Gives old mid before middle → GaveUp tells past faults IsPump mid new memory
-      → StopsCall tells past faults session body place old memory
+      → Served facts Gives old mid before middle → GaveUp facts IsPump mid new memory
+      → StopsCall facts session body place old memory
   stops-second old mid new before middle Want first so = tt
   stops-second old mid new before middle (Spent number) first so =
       (gave_up-second {First = Gives} {Second = IsPump} first so).spent number refl
 
   pub stops-want : (old : Nodes D) (memory : Memory) → memory ≡ Want
-      → StopsCall tells past faults session body place old memory
-  stops-want old memory is = subst (StopsCall tells past faults session body place old) (sym is) tt
+      → StopsCall facts session body place old memory
+  stops-want old memory is = subst (StopsCall facts session body place old) (sym is) tt
 
 -- ---- a broker's call
 
-module _ {D : Type 0} (given : Giving D) (tells : D → Bool) (past : D → List Disk) (faults : D → ℕ) (run : Run) where
+module _ {D : Type 0} (given : Giving D) (facts : DiskFacts D) (run : Run) where
   pub call-given-up : (s : Setup) (session : ℕ) (body : Unstamped) (place : ℕ) (old : Nodes D) (memory : Memory)
-      → Holds given tells past faults s old run → StopsCall tells past faults session body place old memory
-      → IsCallGivenUp (Meets given tells past faults 0 0) (setup_in s run) run.events session body place memory
+      → Holds given facts s old run → StopsCall facts session body place old memory
+      → IsCallGivenUp (Meets given facts 0 0) (setup_in s run) run.events session body place memory
   call-given-up s session body place old Want h so = tt
   call-given-up s session body place old (Spent number) h so =
       let setup : ClusterSetup = setup_in s run in
-      ends-spent given tells past faults s run (IsCall setup session body place) (IsCall setup session body place) old 0 0
+      ends-spent given facts s run (IsCall setup session body place) (IsCall setup session body place) old 0 0
       number h (λ c events allowed. allowed)
       (λ k events allowed. call-once k setup session body place (cluster_in s run) events allowed)
-      (so setup (cluster_in s run) (reached given tells past faults s run) h.stands)
+      (so setup (cluster_in s run) (reached given facts s run) h.stands)
 
   -- nodes stand for the run after a call
   holds-called : (s : Setup) (session : ℕ) (body : Unstamped) (place : ℕ) (old new : Nodes D)
-      (early late : List ClusterEvent) (before later : Outcome) → Holds given tells past faults s old run
+      (early late : List ClusterEvent) (before later : Outcome) → Holds given facts s old run
       → IsCall (setup_in s run) session body place (cluster_in s run) (early ++ late)
       → Serves (setup_in s run) (cluster_in s run) (λ events. events ≡ early ++ late)
-      (Stands tells past (setup_in s run) new) (seen tells past faults old) (seen tells past faults new) before later
-      → Holds given tells past faults s new (run_after run (run.events ++ (early ++ late)))
+      (Stands facts (setup_in s run) new) (seen facts old) (seen facts new) before later
+      → Holds given facts s new (run_after run (run.events ++ (early ++ late)))
   holds-called s session body place old new early late before later h allowed sv =
       let setup : ClusterSetup = setup_in s run in
       let c : Cluster = cluster_in s run in
-      subst (λ (l : List ClusterEvent). Holds given tells past faults s new (run_after run (run.events ++ l)))
-      sv.did.means
-      (holds-more given tells past faults s run old new sv.did.events (run.lines + 1) h sv.did.stands
-      (λ k there mid last was is restarted b. became-served given tells past faults setup run.events
-      (λ (events : List ClusterEvent). events ≡ early ++ late) (Stands tells past setup new) old new before later sv k
+      subst (λ (l : List ClusterEvent). Holds given facts s new (run_after run (run.events ++ l))) sv.did.means
+      (holds-more given facts s run old new sv.did.events (run.lines + 1) h sv.did.stands
+      (λ k there mid last was is restarted b. became-served given facts setup run.events
+      (λ (events : List ClusterEvent). events ≡ early ++ late) (Stands facts setup new) old new before later sv k
       there (call-once k setup session body place c sv.did.events
       (subst (IsCall setup session body place c) (sym sv.did.means) allowed)) mid last was is restarted b))
 
   pub has-called : HearsTold → HoldsAlike → (old new : Broker D) (session : SessionId) (queue : QueueId)
       (body : Unstamped) (before after : Takers) (first later : Outcome) (called : Called)
-      → Runs given tells past faults old run → new.setup ≡ old.setup → new.room ≡ old.room
+      → Runs given facts old run → new.setup ≡ old.setup → new.room ≡ old.room
       → first.takers ≡ hear_on (Some []) before → after ≡ hear_on before.heard later.takers
-      → HearsCall tells past faults session.number body queue.0 old.nodes new.nodes first later called
-      → HasCalled given tells past faults old new run session queue body before after called
+      → HearsCall facts session.number body queue.0 old.nodes new.nodes first later called
+      → HasCalled given facts old new run session queue body before after called
   has-called hears alike old new session queue body before after first later called so same room start back call =
       let s : Setup = old.setup in
       let setup : ClusterSetup = setup_in s run in
       let c : Cluster = cluster_in s run in
-      let j : Joined tells past faults (λ (own : ClusterSetup). IsGiven session.number body queue.0) IsPump old.nodes new.nodes
+      let j : Joined facts (λ (own : ClusterSetup). IsGiven session.number body queue.0) IsPump old.nodes new.nodes
       first call.gives.told call.between call.pumps.told setup c =
-      served-join call.gives.served call.pumps.served setup c (reached given tells past faults s run) so.holds.stands in
+      served-join call.gives.served call.pumps.served setup c (reached given facts s run) so.holds.stands in
       let allowed : IsCall setup session.number body queue.0 c (j.early ++ j.late) =
       record { early = j.early; late = j.late; is = refl; first = j.first; second = j.second } in
       let holds = holds-called s session.number body queue.0 old.nodes new.nodes j.early j.late first
@@ -244,14 +242,14 @@ module _ {D : Type 0} (given : Giving D) (tells : D → Bool) (past : D → List
       record {
         more = j.early ++ j.late;
         allowed = allowed;
-        disks = had-so given tells past faults s new.nodes next holds;
-        runs = runs-on given tells past faults run old new next so same room holds;
+        disks = had-so given facts s new.nodes next holds;
+        runs = runs-on given facts run old new next so same room holds;
         answers = record {
           outcome = call.outcome ∙ ap outcome_heard heard.asked_is;
           rows = call.rows ∙ ap (rows_heard queue.0) heard.list_is;
           effects = call.effects ∙ ap (handed_heard queue.0) heard.list_is;
           others = call.others ∙ ap (others_heard queue.0) heard.list_is;
-          idle = call.idle setup (cluster_in s next) (reached given tells past faults s next) holds.stands
+          idle = call.idle setup (cluster_in s next) (reached given facts s next) holds.stands
               ∙ ap (is_idle setup) last;
         };
         held = ap (λ (t : Takers). t.held) back ∙ heard.held;

@@ -1,6 +1,6 @@
 -- A run over nodes stops, and writes its closing line.
-use Rattle.std.proofs.Common.{◌≡◌, ◌≤◌, ℕ, Bool, List, [], inr, subst}
-use Rattle.qq_disk.specs.Disk.{Disk}
+use Rattle.std.proofs.Common.{◌≡◌, ◌≤◌, ℕ, [], inr, subst}
+use Rattle.qq_disk.specs.Facts.{DiskFacts}
 use Rattle.qq_ports.specs.Streams.{SinkState, SourceState, Writes}
 use Rattle.qq_setup.specs.declared.setup.Setup.{Setup}
 use Rattle.qq_cluster_run.specs.declared.stop.Stop.{Stop}
@@ -13,20 +13,18 @@ use Rattle.qq_taker.specs.Takers.{Takers}
 use Rattle.qq_broker.proofs.Meeting.{run-earlier}
 
 -- `first` is the yard's count of faults when the run began, and `a` the sink's state; at the stop they are `after` and `b`
-pub run-stopped : {D : Type 0} (given : Giving D) (tells : D → Bool) (past : D → List Disk) (faults : D → ℕ)
-    (takers later : Takers) (s : Setup) (stop : Stop) (status : ℕ) (ending : Ending) (x y : SourceState)
+pub run-stopped : {D : Type 0} (given : Giving D) (facts : DiskFacts D) (takers later : Takers) (s : Setup)
+    (stop : Stop) (status : ℕ) (ending : Ending) (x y : SourceState)
     (a b c : SinkState) (first before after : ℕ) → first ≤ before → a.faults ≤ b.faults → b.faults ≤ c.faults
-    → HasStopped stop s (at x a) (at y b) (RunMeets given tells past faults takers before after)
-    (RunClaims given tells past faults takers later) [] → Closes status ending b c (Writes b c)
-    → ending ≡ ending_of stop
-    → HasRun status s (at x a) (at y c) (RunMeets given tells past faults takers first after)
-    (RunClaims given tells past faults takers later)
-run-stopped given tells past faults takers later s stop status ending x y a b c first before after earlier le more so closes
+    → HasStopped stop s (at x a) (at y b) (RunMeets given facts takers before after)
+    (RunClaims given facts takers later) [] → Closes status ending b c (Writes b c) → ending ≡ ending_of stop
+    → HasRun status s (at x a) (at y c) (RunMeets given facts takers first after) (RunClaims given facts takers later)
+run-stopped given facts takers later s stop status ending x y a b c first before after earlier le more so closes
     is =
-    let met = RunMeets given tells past faults takers first after in
-    let claims = RunClaims given tells past faults takers later in
-    let stopped = stopped_earlier (RunMeets given tells past faults takers before after) met claims
-    (run-earlier given tells past faults takers first before after earlier) stop s (at x a) (at y b) [] so in
+    let met = RunMeets given facts takers first after in
+    let claims = RunClaims given facts takers later in
+    let stopped = stopped_earlier (RunMeets given facts takers before after) met claims
+    (run-earlier given facts takers first before after earlier) stop s (at x a) (at y b) [] so in
     inr (inr (record {
       stop = stop;
       closes = subst

@@ -1,10 +1,10 @@
 -- Nodes of a run are crashed, one after the other.
-use Rattle.std.proofs.Common.{◌≡◌, ◌≤◌, ◌+◌, ℕ, zero, suc, Bool, List, [], ◌∷◌, ◌++◌, map, refl, sym, ap, subst, ◌∙◌, append-nil, append_assoc, arith}
+use Rattle.std.proofs.Common.{◌≡◌, ◌≤◌, ◌+◌, ℕ, zero, suc, List, [], ◌∷◌, ◌++◌, map, refl, sym, ap, subst, ◌∙◌, append-nil, append_assoc, arith}
 use Rattle.std.specs.List.{flat_map, range_with_len}
 use Rattle.std.proofs.lemmas.List.FromFn.{map-range_with_len_more}
 use Rattle.qq_base.specs.declared.ids.NodeId.{NodeId}
 use Rattle.qq_disk.specs.declared.image.Image.{Image}
-use Rattle.qq_disk.specs.Disk.{Disk}
+use Rattle.qq_disk.specs.Facts.{DiskFacts}
 use Rattle.qq_ports.specs.Yard.{IsYardCaused}
 use Rattle.qq_ports.specs.declared.yard_fault.YardFault.{YardFault}
 use Rattle.qq_ports.specs.declared.yard_fault.YardFault.TheVariants as yard_faults
@@ -64,26 +64,25 @@ no-prints setup c image (k ∷ list) = no-prints setup (cluster_happens c (Crash
 
 -- ---- the nodes
 
-module _ {D : Type 0} (given : Giving D) (tells : D → Bool) (past : D → List Disk) (faults : D → ℕ) where
+module _ {D : Type 0} (given : Giving D) (facts : DiskFacts D) where
   -- the first nodes were crashed
   abbrev pub CrashedTo : Image → ℕ → Nodes D → Nodes D → Type 0
   CrashedTo image at old new =
-      (s : Setup) (run : Run) → Holds given tells past faults s old run
-      → Holds given tells past faults s new (with_events run (run.events ++ crashes 1 at image))
+      (s : Setup) (run : Run) → Holds given facts s old run
+      → Holds given facts s new (with_events run (run.events ++ crashes 1 at image))
 
   pub crashed-none : (image : Image) (held : Nodes D) → CrashedTo image 0 held held
   crashed-none image held s run h =
-      subst (λ (l : List ClusterEvent). Holds given tells past faults s held (with_events run l))
-      (sym (append-nil run.events)) h
+      subst (λ (l : List ClusterEvent). Holds given facts s held (with_events run l)) (sym (append-nil run.events)) h
 
   pub crashed-more : (image : Image) (at : ℕ) (old mid new : Nodes D) → CrashedTo image at old mid
-      → ((s : Setup) (run : Run) → Holds given tells past faults s mid run
-      → Holds given tells past faults s new (with_events run (run.events ++ Crashes (at + 1) image ∷ [])))
+      → ((s : Setup) (run : Run) → Holds given facts s mid run
+      → Holds given facts s new (with_events run (run.events ++ Crashes (at + 1) image ∷ [])))
       → CrashedTo image (at + 1) old new
   crashed-more image at old mid new first second s run h =
       let more : crashes 1 (at + 1) image ≡ crashes 1 at image ++ Crashes (at + 1) image ∷ [] =
       map-range_with_len_more (λ (k : ℕ). Crashes k image) 1 at (at + 1) (omega arith) in
-      subst (λ (l : List ClusterEvent). Holds given tells past faults s new (with_events run l))
+      subst (λ (l : List ClusterEvent). Holds given facts s new (with_events run l))
       (append_assoc run.events (crashes 1 at image) (Crashes (at + 1) image ∷ [])
       ∙ ap (λ (l : List ClusterEvent). run.events ++ l) (sym more))
       (second s (with_events run (run.events ++ crashes 1 at image)) (first s run h))
@@ -92,21 +91,20 @@ module _ {D : Type 0} (given : Giving D) (tells : D → Bool) (past : D → List
       → CrashedTo image count old new
   crashed-all image at count old new is so = subst (λ (n : ℕ). CrashedTo image n old new) is so
 
-module _ {D : Type 0} (given : Giving D) (tells : D → Bool) (past : D → List Disk) (faults : D → ℕ) (s : Setup)
-    (run : Run) (new : Nodes D)
-    (image : Image) (told : Outcome) where
+module _ {D : Type 0} (given : Giving D) (facts : DiskFacts D) (s : Setup) (run : Run) (new : Nodes D) (image : Image)
+    (told : Outcome) where
   served-so : (which : Which) (more : List ClusterEvent)
       → IsLine (setup_in s run) (Crash which image) (cluster_in s run) more
       → all_prints (setup_in s run) (cluster_in s run) more ≡ []
-      → Holds given tells past faults s new (with_events run (run.events ++ more))
-      → IsServed given tells past faults s run (Crash which image) new told told
+      → Holds given facts s new (with_events run (run.events ++ more))
+      → IsServed given facts s run (Crash which image) new told told
   served-so which more allowed silent h =
-      let holds : Holds given tells past faults s new (run_after run (run.events ++ more)) =
+      let holds : Holds given facts s new (run_after run (run.events ++ more)) =
       record { stands = h.stands; restarted = h.restarted; disks = h.disks } in
       record {
         more = more;
         allowed = allowed;
-        disks = had-so given tells past faults s new (run_after run (run.events ++ more)) holds;
+        disks = had-so given facts s new (run_after run (run.events ++ more)) holds;
         stands = holds;
         says = sym (append-nil told.text)
             ∙ ap (λ (l : List Printed). told.text ++ flat_map (printed_text (setup_in s run)) l) (sym silent);
@@ -114,14 +112,14 @@ module _ {D : Type 0} (given : Giving D) (tells : D → Bool) (past : D → List
       }
 
   pub one-served : (node : NodeId)
-      → Holds given tells past faults s new (with_events run (run.events ++ Crashes node.0 image ∷ []))
-      → IsServed given tells past faults s run (Crash (One node) image) new told told
+      → Holds given facts s new (with_events run (run.events ++ Crashes node.0 image ∷ []))
+      → IsServed given facts s run (Crash (One node) image) new told told
   one-served node h =
       served-so (One node) (Crashes node.0 image ∷ []) (one-line (setup_in s run) (cluster_in s run) node image)
       (no-prints (setup_in s run) (cluster_in s run) image (node.0 ∷ [])) h
 
-  pub all-served : Holds given tells past faults s new (with_events run (run.events ++ crashes 1 s.nodes image))
-      → IsServed given tells past faults s run (Crash All image) new told told
+  pub all-served : Holds given facts s new (with_events run (run.events ++ crashes 1 s.nodes image))
+      → IsServed given facts s run (Crash All image) new told told
   all-served h =
       served-so All (crashes 1 s.nodes image) (all-lines s run (cluster_in s run) image)
       (no-prints (setup_in s run) (cluster_in s run) image (range_with_len 1 s.nodes)) h

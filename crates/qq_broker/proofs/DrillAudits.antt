@@ -1,12 +1,12 @@
 -- The audits of a drill's queues go into its digest, and their rows are counted.
-use Rattle.std.proofs.Common.{◌≡◌, ◌<◌, ◌≤◌, ◌+◌, ℕ, Bool, List, [], ◌∷◌, ◌++◌, drop, take, get_or, length, map, refl, sym, ap, subst, ◌∙◌, append_assoc, append-nil, arith}
+use Rattle.std.proofs.Common.{◌≡◌, ◌<◌, ◌≤◌, ◌+◌, ℕ, List, [], ◌∷◌, ◌++◌, drop, take, get_or, length, map, refl, sym, ap, subst, ◌∙◌, append_assoc, append-nil, arith}
 use Rattle.std.specs.Prelude.{count_by, flat_map}
 use Rattle.std.proofs.lemmas.List.{drop_all, drop_more, take_all, take_more}
 use Rattle.std.proofs.lemmas.Grind.{flat_map-append}
+use Rattle.qq_disk.specs.Facts.{DiskFacts}
 use Rattle.sha2.specs.Hashers.{Holds256}
 use Rattle.sha2.specs.Sha256.{sha256}
 use Rattle.sha2.specs.declared.Sha256.{Sha256}
-use Rattle.qq_disk.specs.Disk.{Disk}
 use Rattle.qq_entry.specs.declared.audit.AuditRow.{AuditRow}
 use Rattle.qq_setup.specs.declared.queue_row.QueueRow.{QueueRow}
 use Rattle.qq_setup.specs.declared.setup.Setup.{Setup}
@@ -78,17 +78,17 @@ more-of f rows i row lt is =
     ∙ flat_map-append f (take i rows) (row ∷ [])
     ∙ ap (λ (l : List ℕ). flat_map f (take i rows) ++ l) (append-nil (f row))
 
-module _ {D : Type 0} (tells : D → Bool) (past : D → List Disk) (faults : D → ℕ) (s : Setup) (held : Nodes D) where
+module _ {D : Type 0} (facts : DiskFacts D) (s : Setup) (held : Nodes D) where
   -- a digest has the audits of the first rows behind what it had
   abbrev pub Digests : (old now : Sha256) (rows : List QueueRow) (i : ℕ) → Type 0
   Digests old now rows i =
-      (given : Giving D) (run : Run) (text : List ℕ) → Holds given tells past faults s held run → Holds256 old text
+      (given : Giving D) (run : Run) (text : List ℕ) → Holds given facts s held run → Holds256 old text
       → Holds256 now (text ++ flat_map (row_audit (cluster_in s run)) (take i rows))
 
   -- and with the rows of the others a tally has them all
   abbrev pub Tallies : (old now : Tally) (rows : List QueueRow) (i : ℕ) → Type 0
   Tallies old now rows i =
-      (given : Giving D) (run : Run) → Holds given tells past faults s held run
+      (given : Giving D) (run : Run) → Holds given facts s held run
       → count_rows (flat_map (row_rows (cluster_in s run)) (drop i rows)) now
       ≡ count_rows (flat_map (row_rows (cluster_in s run)) rows) old
 
@@ -100,8 +100,7 @@ module _ {D : Type 0} (tells : D → Bool) (past : D → List Disk) (faults : D 
 
   pub digests-more : (old mid now : Sha256) (rows : List QueueRow) (i : ℕ) (row : QueueRow) (piece : List ℕ)
       → i < length rows → row ≡ get_or rows i row → Digests old mid rows i
-      → ((given : Giving D) (run : Run) → Holds given tells past faults s held run
-      → piece ≡ row_audit (cluster_in s run) row)
+      → ((given : Giving D) (run : Run) → Holds given facts s held run → piece ≡ row_audit (cluster_in s run) row)
       → ((m : List ℕ) → Holds256 mid m → Holds256 now (m ++ piece)) → Digests old now rows (i + 1)
   digests-more old mid now rows i row piece lt is so adds grows = λ given run text h held'.
       (let f = row_audit (cluster_in s run) in
@@ -113,7 +112,7 @@ module _ {D : Type 0} (tells : D → Bool) (past : D → List Disk) (faults : D 
 
   pub tallies-more : (old mid now : Tally) (rows : List QueueRow) (i : ℕ) (row : QueueRow) → i < length rows
       → row ≡ get_or rows i row → Tallies old mid rows i
-      → ((given : Giving D) (run : Run) → Holds given tells past faults s held run
+      → ((given : Giving D) (run : Run) → Holds given facts s held run
       → now ≡ count_rows (row_rows (cluster_in s run) row) mid) → Tallies old now rows (i + 1)
   tallies-more old mid now rows i row lt is so adds = λ given run h.
       (let f = row_rows (cluster_in s run) in
@@ -125,7 +124,7 @@ module _ {D : Type 0} (tells : D → Bool) (past : D → List Disk) (faults : D 
 
   pub digests-end : (old now : Sha256) (rows : List QueueRow) (i : ℕ) → MayRun s → rows ≡ s.queues → length rows ≤ i
       → Digests old now rows i → (given : Giving D) (run : Run) (text : List ℕ)
-      → Holds given tells past faults s held run → Holds256 old text
+      → Holds given facts s held run → Holds256 old text
       → Holds256 now (text ++ audits_text (setup_in s run) (cluster_in s run))
   digests-end old now rows i may are le so given run text h was =
       subst (Holds256 now)
@@ -133,7 +132,7 @@ module _ {D : Type 0} (tells : D → Bool) (past : D → List Disk) (faults : D 
       ∙ ap (λ (l : List ℕ). text ++ l) (audits_by_rows s run.logs (cluster_in s run) may)) (so given run text h was)
 
   pub tallies-end : (old now : Tally) (rows : List QueueRow) (i : ℕ) → rows ≡ s.queues → length rows ≤ i
-      → Tallies old now rows i → (given : Giving D) (run : Run) → Holds given tells past faults s held run
+      → Tallies old now rows i → (given : Giving D) (run : Run) → Holds given facts s held run
       → now ≡ count_rows (all_rows (setup_in s run) (cluster_in s run)) old
   tallies-end old now rows i are le so given run h =
       let f = row_rows (cluster_in s run) in

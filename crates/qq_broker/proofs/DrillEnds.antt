@@ -1,6 +1,6 @@
 -- How a drill ends that was opened.
-use Rattle.std.proofs.Common.{◌≡◌, ◌≤◌, ℕ, Bool, List, [], ◌∷◌, ◌++◌, Some, sym, ap, subst, ◌∙◌, inl, inr}
-use Rattle.qq_disk.specs.Disk.{Disk}
+use Rattle.std.proofs.Common.{◌≡◌, ◌≤◌, ℕ, List, [], ◌∷◌, ◌++◌, Some, sym, ap, subst, ◌∙◌, inl, inr}
+use Rattle.qq_disk.specs.Facts.{DiskFacts}
 use Rattle.qq_ports.specs.Streams.{SinkState, SourceState, Writes}
 use Rattle.qq_script_lines.specs.declared.line.ScriptLine.{ScriptLine}
 use Rattle.qq_setup.specs.declared.setup.Setup.{Setup}
@@ -35,27 +35,27 @@ use Rattle.qq_broker.proofs.Meeting.{meets-earlier}
 pub no-room : (met : Trouble → Type 0) (s : Setup) (ending : Ending) → ending ≡ no_memory → MayNotOpen met s ending
 no-room met s ending is = inr (new_logs, inl is)
 
-module _ {D : Type 0} (given : Giving D) (tells : D → Bool) (past : D → List Disk) (faults : D → ℕ) (s : Setup) where
+module _ {D : Type 0} (given : Giving D) (facts : DiskFacts D) (s : Setup) where
   -- ---- its parts were done, or it stopped in one
 
   pub drill-finished : (before after : ℕ) (run : Run) (parts : List Part) (k : Known) (number status : ℕ)
       (old new : SinkState) (held : Nodes D) (told : Outcome) (play : Play)
-      → (so : PartsDone given tells past faults s run parts k held told play)
+      → (so : PartsDone given facts s run parts k held told play)
       → HasSummary status (drill_text number (setup_in s run) (cluster_in s (run_with run so.more)) so.later) old new
-      → HasPlayed given tells past faults before after s run parts k number status old new
+      → HasPlayed given facts before after s run parts k number status old new
   drill-finished before after run parts k number status old new held told play so summed = inl (record {
     more = so.more;
     known = so.later;
     are = so.are;
-    disks = had-so given tells past faults s held (run_with run so.more) so.plays.holds;
+    disks = had-so given facts s held (run_with run so.more) so.plays.holds;
     told = summed;
   })
 
   pub drill-broken : (before after : ℕ) (run : Run) (parts : List Part) (k : Known) (number status : ℕ)
       (old new : SinkState) (stop : AskStop) (ending : Ending)
-      → PartsStop given tells past faults before after s run parts k stop → ending ≡ ending_at stop
+      → PartsStop given facts before after s run parts k stop → ending ≡ ending_at stop
       → Closes status ending old new (Writes old new)
-      → HasPlayed given tells past faults before after s run parts k number status old new
+      → HasPlayed given facts before after s run parts k number status old new
   drill-broken before after run parts k number status old new stop ending so is closes = inr (record {
     stop = stop;
     stops = so;
@@ -66,7 +66,7 @@ module _ {D : Type 0} (given : Giving D) (tells : D → Bool) (past : D → List
 
   abbrev Opened : Nodes D → (before later : Outcome) → Type 0
   Opened held before later =
-      HasOpened (Had given tells past faults) s (Holds given tells past faults s held) before later
+      HasOpened (Had given facts) s (Holds given facts s held) before later
 
   -- the run as the nodes were opened, and what is known of the drill then
   abbrev pub first_run : (held : Nodes D) (before later : Outcome) → Opened held before later → Run
@@ -83,8 +83,7 @@ module _ {D : Type 0} (given : Giving D) (tells : D → Bool) (past : D → List
       → ((list : List Heard) → mid.takers.heard ≡ Some list → IsSilent later)
       → ((list : List Heard) (x : Known) → mid.takers.heard ≡ Some list → Knows play x
       → Knows next (tell (deliveries_among list) mid.text x))
-      → Plays given tells past faults s (first_run held before mid so) held later next
-      (known_first number held before mid so)
+      → Plays given facts s (first_run held before mid so) held later next (known_first number held before mid so)
   opened-plays hears number held before mid later play next first so knew silent knows =
       let S : ClusterSetup = cluster_over s so.logs in
       let list : List Heard = all_heard (all_prints S (new_cluster S) so.events) in
@@ -103,10 +102,10 @@ module _ {D : Type 0} (given : Giving D) (tells : D → Bool) (past : D → List
   pub opened-drilled : (first before after : ℕ) → first ≤ before → (number status : ℕ) (list : List Part)
       (source : SourceState) (old new : SinkState) (held : Nodes D) (was mid : Outcome)
       → list ≡ parts s.nodes → (so : Opened held was mid)
-      → HasPlayed given tells past faults before after s (first_run held was mid so) list
-      (known_first number held was mid so) number status old new
+      → HasPlayed given facts before after s (first_run held was mid so) list (known_first number held was mid so)
+      number status old new
       → HasDrilled status number s (record { source = source; sink = old }) (record { source = source; sink = new })
-      (Meets given tells past faults first after) (Had given tells past faults)
+      (Meets given facts first after) (Had given facts)
   opened-drilled first before after le number status list source old new held was mid are so (inl over) =
       inr (inl (record {
         whole = record {
@@ -145,9 +144,9 @@ module _ {D : Type 0} (given : Giving D) (tells : D → Bool) (past : D → List
           disks = stops.disks;
         };
         ending = ending_at broken.stop;
-        stops = within-earlier (Meets given tells past faults before after) (Meets given tells past faults first after)
-            (meets-earlier given tells past faults first before after le) (Had given tells past faults)
-            (setup_in s (run_with run stops.more)) (run_with run stops.more).events
+        stops = within-earlier (Meets given facts before after) (Meets given facts first after)
+            (meets-earlier given facts first before after le) (Had given facts) (setup_in s (run_with run stops.more))
+            (run_with run stops.more).events
             (part_lines stops.part (is_led stops.part (cluster_in s (run_with run stops.more))) stops.known.drill)
             (ending_at broken.stop) stops.stops;
         keeps = keeps-all source.left;

@@ -1,6 +1,6 @@
 -- Why a drill stops, and where.
 use Rattle.std.proofs.Common.{◌≡◌, ◌≤◌, ℕ, Bool, List, [], ◌∷◌, ◌++◌, refl, sym, ap, subst, ◌∙◌, inl, inr, append-nil}
-use Rattle.qq_disk.specs.Disk.{Disk}
+use Rattle.qq_disk.specs.Facts.{DiskFacts}
 use Rattle.qq_script_lines.specs.declared.line.ScriptLine.{ScriptLine}
 use Rattle.qq_setup.specs.declared.setup.Setup.{Setup}
 use Rattle.qq_cluster.specs.Cluster.{ClusterEvent, Setup as ClusterSetup}
@@ -68,55 +68,54 @@ within-earlier met met' f had S events next ending so = record {
   may = next-earlier met met' f S (events ++ so.more) so.left ending so.may;
 }
 
-module _ {D : Type 0} (given : Giving D) (tells : D → Bool) (past : D → List Disk) (faults : D → ℕ) (s : Setup) where
+module _ {D : Type 0} (given : Giving D) (facts : DiskFacts D) (s : Setup) where
   -- no line was served
   pub lines-want : (before after : ℕ) (run : Run) (lines : List ScriptLine) (k : Known) (held : Nodes D)
-      (told : Outcome) (play : Play) → Plays given tells past faults s run held told play k
-      → LinesStop given tells past faults before after s run lines NoMemory
+      (told : Outcome) (play : Play) → Plays given facts s run held told play k
+      → LinesStop given facts before after s run lines NoMemory
   lines-want before after run lines k held told play so = record {
     served = [];
     left = lines;
     are = refl;
     more = [];
     allowed = refl;
-    disks = subst (Had given tells past faults (setup_in s run)) (sym (append-nil run.events))
-        (had-so given tells past faults s held run so.holds);
-    may = next-want (Meets given tells past faults before after) (setup_in s run) (run.events ++ []) lines;
+    disks = subst (Had given facts (setup_in s run)) (sym (append-nil run.events))
+        (had-so given facts s held run so.holds);
+    may = next-want (Meets given facts before after) (setup_in s run) (run.events ++ []) lines;
   }
 
   pub lines-stop : (first before after : ℕ) → first ≤ before → (run : Run) (all done : List ScriptLine)
       (line : ScriptLine) (rest : List ScriptLine) (k : Known) (held : Nodes D) (told : Outcome) (play : Play)
       (stop : AskStop) → all ≡ done ++ line ∷ rest
-      → (so : LinesServed given tells past faults s run done k held told play)
-      → StopsNext (Meets given tells past faults before after) (setup_in s run) (run_with run so.more).events (line ∷ [])
+      → (so : LinesServed given facts s run done k held told play)
+      → StopsNext (Meets given facts before after) (setup_in s run) (run_with run so.more).events (line ∷ [])
       (ending_at stop)
-      → LinesStop given tells past faults first after s run all stop
+      → LinesStop given facts first after s run all stop
   lines-stop first before after le run all done line rest k held told play stop are so next = record {
     served = done;
     left = line ∷ rest;
     are = are;
     more = so.more;
     allowed = so.allowed;
-    disks = had-so given tells past faults s held (run_with run so.more) so.plays.holds;
-    may = next-earlier (Meets given tells past faults before after) (Meets given tells past faults first after)
-        (meets-earlier given tells past faults first before after le) (setup_in s run) (run.events ++ so.more)
-        (line ∷ rest) (ending_at stop) next;
+    disks = had-so given facts s held (run_with run so.more) so.plays.holds;
+    may = next-earlier (Meets given facts before after) (Meets given facts first after)
+        (meets-earlier given facts first before after le) (setup_in s run) (run.events ++ so.more) (line ∷ rest)
+        (ending_at stop) next;
   }
 
   -- within a part
   pub part-stops : (before after : ℕ) (run : Run) (part : Part) (led : Bool) (lines : List ScriptLine) (k : Known)
       (stop : AskStop) → led ≡ is_led part (cluster_in s run) → lines ≡ part_lines part led k.drill
-      → LinesStop given tells past faults before after s run lines stop
-      → PartStops given tells past faults before after s run part k stop
+      → LinesStop given facts before after s run lines stop → PartStops given facts before after s run part k stop
   part-stops before after run part led lines k stop is are so =
-      subst (λ (l : List ScriptLine). LinesStop given tells past faults before after s run l stop)
+      subst (λ (l : List ScriptLine). LinesStop given facts before after s run l stop)
       (are ∙ ap (λ (b : Bool). part_lines part b k.drill) is) so
 
   pub parts-stop : (first before after : ℕ) → first ≤ before → (run : Run) (all done : List Part) (part : Part)
       (rest : List Part) (k : Known) (held : Nodes D) (told : Outcome) (play : Play) (stop : AskStop)
-      → all ≡ done ++ part ∷ rest → (so : PartsDone given tells past faults s run done k held told play)
-      → PartStops given tells past faults before after s (run_with run so.more) part so.later stop
-      → PartsStop given tells past faults first after s run all k stop
+      → all ≡ done ++ part ∷ rest → (so : PartsDone given facts s run done k held told play)
+      → PartStops given facts before after s (run_with run so.more) part so.later stop
+      → PartsStop given facts first after s run all k stop
   parts-stop first before after le run all done part rest k held told play stop are so stops = record {
     done = done;
     part = part;
@@ -125,9 +124,9 @@ module _ {D : Type 0} (given : Giving D) (tells : D → Bool) (past : D → List
     more = so.more;
     known = so.later;
     are = so.are;
-    disks = had-so given tells past faults s held (run_with run so.more) so.plays.holds;
-    stops = within-earlier (Meets given tells past faults before after) (Meets given tells past faults first after)
-        (meets-earlier given tells past faults first before after le) (Had given tells past faults) (setup_in s run)
+    disks = had-so given facts s held (run_with run so.more) so.plays.holds;
+    stops = within-earlier (Meets given facts before after) (Meets given facts first after)
+        (meets-earlier given facts first before after le) (Had given facts) (setup_in s run)
         (run_with run so.more).events
         (part_lines part (is_led part (cluster_in s (run_with run so.more))) so.later.drill) (ending_at stop) stops;
   }

@@ -1,10 +1,10 @@
 -- What the status of a drill tells.
-use Rattle.std.proofs.Common.{◌≡◌, ◌⊎◌, ◌++◌, ℕ, Bool, List, [], ◌∷◌, Some, None, refl, sym, ap, subst, ◌∙◌, inl, inr, arith}
+use Rattle.std.proofs.Common.{◌≡◌, ◌⊎◌, ◌++◌, ℕ, List, [], ◌∷◌, Some, None, refl, sym, ap, subst, ◌∙◌, inl, inr, arith}
 use Rattle.std.specs.Prelude.{codes}
 use Rattle.std.specs.Io.KnownBytes.{Appends, Keeps}
 use Rattle.std.specs.List.{AllByRecursion}
 use Rattle.qq_base.specs.Causes.{Rose}
-use Rattle.qq_disk.specs.Disk.{Disk}
+use Rattle.qq_disk.specs.Facts.{DiskFacts}
 use Rattle.qq_log.specs.Stable.{Stable}
 use Rattle.qq_ports.specs.Streams.{SinkFails, Streams, Writes}
 use Rattle.qq_script_lines.specs.declared.line.ScriptLine.{ScriptLine}
@@ -186,17 +186,17 @@ the-status met status ending is (NumberStands setup events number so end same) =
 
 -- ---- over the disks of a yard
 
-module _ {D : Type 0} (given : Giving D) (tells : D → Bool) (past : D → List Disk) (faults : D → ℕ)
-    (number nodes : ℕ) (before later : Streams) (yard yard' : ℕ) where
+module _ {D : Type 0} (given : Giving D) (facts : DiskFacts D) (number nodes : ℕ) (before later : Streams)
+    (yard yard' : ℕ) where
   abbrev Met : Trouble → Type 0
-  Met = Meets given tells past faults yard yard'
+  Met = Meets given facts yard yard'
 
   abbrev Ends : ℕ → Type 0
-  Ends status = DrillEnds status number nodes before later Met (Had given tells past faults)
+  Ends status = DrillEnds status number nodes before later Met (Had given facts)
 
-  so-ended : (status : ℕ) → Ends status → Ended Met (Had given tells past faults) status number nodes before later
+  so-ended : (status : ℕ) → Ends status → Ended Met (Had given facts) status number nodes before later
   so-ended status so =
-      has-ended Met (Had given tells past faults) (λ setup events taker gone. gone) status number nodes before later so
+      has-ended Met (Had given facts) (λ setup events taker gone. gone) status number nodes before later so
 
   abbrev Wrote : List ℕ → Type 0
   Wrote text = Appends before.sink.written later.sink.written text
@@ -214,8 +214,7 @@ module _ {D : Type 0} (given : Giving D) (tells : D → Bool) (past : D → List
       which text (At9 is setup events node place lane noticed cause same) = inr (inr (inr (inr (inl is))))
       which text (At20 is setup events most cause end same) = inr (inr (inr (inr (inr (inr is)))))
 
-      by : Ended Met (Had given tells past faults) status number nodes before later
-          → (status ≡ 0)
+      by : Ended Met (Had given facts) status number nodes before later → (status ≡ 0)
           ⊎ ((status ≡ 6) ⊎ ((status ≡ 7) ⊎ ((status ≡ 8) ⊎ ((status ≡ 9) ⊎ ((status ≡ 12) ⊎ (status ≡ 20))))))
       by (Whole is s setup whole written) = inl is
       by (Cut is fails) = inr (inl is)
@@ -226,7 +225,7 @@ module _ {D : Type 0} (given : Giving D) (tells : D → Bool) (past : D → List
       → (text : List ℕ) × Status Met status text × Wrote text
   shut status zero six so = by (so-ended status so)
     where
-      by : Ended Met (Had given tells past faults) status number nodes before later
+      by : Ended Met (Had given facts) status number nodes before later
           → (text : List ℕ) × Status Met status text × Wrote text
       by (Whole is s setup whole written) = absurd (zero is)
       by (Cut is fails) = absurd (six is)
@@ -234,7 +233,7 @@ module _ {D : Type 0} (given : Giving D) (tells : D → Bool) (past : D → List
 
   pub drill-done : Ends 0
       → (s : Setup) × (state_of s ≡ drill_setup nodes)
-      × ((whole : Drilled (Had given tells past faults) s number (parts s.nodes))
+      × ((whole : Drilled (Had given facts) s number (parts s.nodes))
       × Wrote (drill_text number (setup_drilled whole) (cluster_drilled whole) whole.known))
   drill-done so = by (so-ended 0 so)
     where
@@ -245,9 +244,8 @@ module _ {D : Type 0} (given : Giving D) (tells : D → Bool) (past : D → List
       none text (At9 is setup events node place lane noticed cause same) = absurd (omega (arith, is))
       none text (At20 is setup events most cause end same) = absurd (omega (arith, is))
 
-      by : Ended Met (Had given tells past faults) 0 number nodes before later
-          → (s : Setup) × (state_of s ≡ drill_setup nodes)
-          × ((whole : Drilled (Had given tells past faults) s number (parts s.nodes))
+      by : Ended Met (Had given facts) 0 number nodes before later → (s : Setup) × (state_of s ≡ drill_setup nodes)
+          × ((whole : Drilled (Had given facts) s number (parts s.nodes))
           × Wrote (drill_text number (setup_drilled whole) (cluster_drilled whole) whole.known))
       by (Whole is s setup whole written) = (s, setup, (whole, written))
       by (Cut is fails) = absurd (omega (arith, is))
@@ -263,27 +261,26 @@ module _ {D : Type 0} (given : Giving D) (tells : D → Bool) (past : D → List
       none text (At9 is setup events node place lane noticed cause same) = absurd (omega (arith, is))
       none text (At20 is setup events most cause end same) = absurd (omega (arith, is))
 
-      by : Ended Met (Had given tells past faults) 6 number nodes before later
-          → Rose before.sink.faults later.sink.faults
+      by : Ended Met (Had given facts) 6 number nodes before later → Rose before.sink.faults later.sink.faults
       by (Whole is s setup whole written) = absurd (omega (arith, is))
       by (Cut is fails) = fails
       by (Shut ending is cause written) = absurd (none ending.text (the-status Met 6 ending is cause))
 
   pub drill-failed : Ends 7
-      → (Rose yard yard' ⊎ ((node : ℕ) × ((disk : D) × IsGiven given tells past node disk
-      × ((last : D) × Rose (faults disk) (faults last)))))
+      → (Rose yard yard' ⊎ ((node : ℕ) × ((disk : D) × IsGiven given facts node disk
+      × ((last : D) × Rose (facts.faults disk) (facts.faults last)))))
       × Wrote (codes "yard fault\n")
   drill-failed so = by (shut 7 (λ is. omega (arith, is)) (λ is. omega (arith, is)) so)
     where
       which : Met YardFails ⊎ ((k : ℕ) × Met (DiskFails k))
-          → Rose yard yard' ⊎ ((node : ℕ) × ((disk : D) × IsGiven given tells past node disk
-          × ((last : D) × Rose (faults disk) (faults last))))
+          → Rose yard yard' ⊎ ((node : ℕ) × ((disk : D) × IsGiven given facts node disk
+          × ((last : D) × Rose (facts.faults disk) (facts.faults last))))
       which (inl rose) = inl rose
       which (inr (k, failed)) = inr (k, (failed.first, failed.given_is, (failed.last, failed.rose)))
 
       by : (text : List ℕ) × Status Met 7 text × Wrote text
-          → (Rose yard yard' ⊎ ((node : ℕ) × ((disk : D) × IsGiven given tells past node disk
-          × ((last : D) × Rose (faults disk) (faults last)))))
+          → (Rose yard yard' ⊎ ((node : ℕ) × ((disk : D) × IsGiven given facts node disk
+          × ((last : D) × Rose (facts.faults disk) (facts.faults last)))))
           × Wrote (codes "yard fault\n")
       by (text, At7 is cause same, wrote) = (which cause, subst Wrote same wrote)
       by (text, At12 is same, wrote) = absurd (omega (arith, is))
@@ -293,12 +290,12 @@ module _ {D : Type 0} (given : Giving D) (tells : D → Bool) (past : D → List
 
   pub drill-broken : Ends 8
       → (setup : ClusterSetup) × ((events : List ClusterEvent) × ((node : ℕ) × ((damage : Damage)
-      × IsBroken given tells past faults setup events node damage × Wrote (damage_ending node damage).text)))
+      × IsBroken given facts setup events node damage × Wrote (damage_ending node damage).text)))
   drill-broken so = by (shut 8 (λ is. omega (arith, is)) (λ is. omega (arith, is)) so)
     where
       by : (text : List ℕ) × Status Met 8 text × Wrote text
           → (setup : ClusterSetup) × ((events : List ClusterEvent) × ((node : ℕ) × ((damage : Damage)
-          × IsBroken given tells past faults setup events node damage × Wrote (damage_ending node damage).text)))
+          × IsBroken given facts setup events node damage × Wrote (damage_ending node damage).text)))
       by (text, At8 is setup events node damage cause same, wrote) =
           (setup, (events, (node, (damage, cause, subst Wrote same wrote))))
       by (text, At12 is same, wrote) = absurd (omega (arith, is))
@@ -308,13 +305,13 @@ module _ {D : Type 0} (given : Giving D) (tells : D → Bool) (past : D → List
 
   pub drill-lost : Ends 9
       → (setup : ClusterSetup) × ((events : List ClusterEvent) × ((node : ℕ) × ((place : ℕ) × ((lane : Stable)
-      × ((noticed : ℕ) × HoldsQueue given tells past faults setup events node place lane
+      × ((noticed : ℕ) × HoldsQueue given facts setup events node place lane
       × Wrote (lost node (setup.name place) noticed lane.op).text)))))
   drill-lost so = by (shut 9 (λ is. omega (arith, is)) (λ is. omega (arith, is)) so)
     where
       by : (text : List ℕ) × Status Met 9 text × Wrote text
           → (setup : ClusterSetup) × ((events : List ClusterEvent) × ((node : ℕ) × ((place : ℕ) × ((lane : Stable)
-          × ((noticed : ℕ) × HoldsQueue given tells past faults setup events node place lane
+          × ((noticed : ℕ) × HoldsQueue given facts setup events node place lane
           × Wrote (lost node (setup.name place) noticed lane.op).text)))))
       by (text, At9 is setup events node place lane noticed cause same, wrote) =
           (setup, (events, (node, (place, (lane, (noticed, cause, subst Wrote same wrote))))))
@@ -335,12 +332,12 @@ module _ {D : Type 0} (given : Giving D) (tells : D → Bool) (past : D → List
 
   pub drill-spent : Ends 20
       → (setup : ClusterSetup) × ((events : List ClusterEvent) × ((most : ℕ)
-      × HasNumber given tells past faults setup events most × IsAtEnd most × Wrote (spent most).text))
+      × HasNumber given facts setup events most × IsAtEnd most × Wrote (spent most).text))
   drill-spent so = by (shut 20 (λ is. omega (arith, is)) (λ is. omega (arith, is)) so)
     where
       by : (text : List ℕ) × Status Met 20 text × Wrote text
           → (setup : ClusterSetup) × ((events : List ClusterEvent) × ((most : ℕ)
-          × HasNumber given tells past faults setup events most × IsAtEnd most × Wrote (spent most).text))
+          × HasNumber given facts setup events most × IsAtEnd most × Wrote (spent most).text))
       by (text, At20 is setup events most cause end same, wrote) =
           (setup, (events, (most, cause, end, subst Wrote same wrote)))
       by (text, At12 is same, wrote) = absurd (omega (arith, is))

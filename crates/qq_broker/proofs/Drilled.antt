@@ -2,7 +2,7 @@
 use Rattle.std.proofs.Common.{◌≡◌, ◌+◌, ◌≤◌, ℕ, Bool, List, [], ◌∷◌, ◌++◌, Some, length, refl, sym, ap, subst, ◌∙◌, inl, inr, append_assoc, append-nil, add_assoc, arith}
 use Rattle.std.proofs.lemmas.List.{length-append}
 use Rattle.std.proofs.lemmas.List.Elements.{filter_map-append}
-use Rattle.qq_disk.specs.Disk.{Disk}
+use Rattle.qq_disk.specs.Facts.{DiskFacts}
 use Rattle.qq_script_lines.specs.declared.line.ScriptLine.{ScriptLine}
 use Rattle.qq_setup.specs.declared.setup.Setup.{Setup}
 use Rattle.qq_taker.specs.Takers.{Takers}
@@ -110,36 +110,34 @@ parts-snoc S (first ∷ parts) part k c events mid (early, (late, (one, is, does
 
 -- ---- over nodes
 
-module _ {D : Type 0} (given : Giving D) (tells : D → Bool) (past : D → List Disk) (faults : D → ℕ) (s : Setup) where
+module _ {D : Type 0} (given : Giving D) (facts : DiskFacts D) (s : Setup) where
   -- the number of lines doesn't matter
   holds-as : (held : Nodes D) (run : Run) (events : List ClusterEvent) (lines : ℕ)
-      → Holds given tells past faults s held (record { lines = lines; logs = run.logs; events = events })
-      → Holds given tells past faults s held (with_events run events)
+      → Holds given facts s held (record { lines = lines; logs = run.logs; events = events })
+      → Holds given facts s held (with_events run events)
   holds-as held run events lines h =
       record { stands = h.stands; restarted = h.restarted; disks = h.disks }
 
   -- no line more
   pub lines-none : (run : Run) (k : Known) (held : Nodes D) (told : Outcome) (play : Play)
-      → Plays given tells past faults s run held told play k
-      → LinesServed given tells past faults s run [] k held told play
+      → Plays given facts s run held told play k → LinesServed given facts s run [] k held told play
   lines-none run k held told play so =
       let events : run.events ++ [] ≡ run.events = append-nil run.events in
       record {
         more = [];
         allowed = refl;
-        plays = subst (λ (e : List ClusterEvent). Plays given tells past faults s (with_events run e) held told play
+        plays = subst (λ (e : List ClusterEvent). Plays given facts s (with_events run e) held told play
             (know (setup_in s run) (cluster_in s run) [] k)) (sym events)
-            (subst (λ (x : Known). Plays given tells past faults s run held told play x)
+            (subst (λ (x : Known). Plays given facts s run held told play x)
             (sym (know-none (setup_in s run) (cluster_in s run) k)) so);
       }
 
   pub line-served : Hears → (run : Run) (line : ScriptLine) (k : Known) (old new : Nodes D) (before mid later : Outcome)
-      (play next : Play) → Plays given tells past faults s run old before play k
-      → IsServed given tells past faults s run line new before mid
+      (play next : Play) → Plays given facts s run old before play k → IsServed given facts s run line new before mid
       → ((list : List Heard) → mid.takers.heard ≡ Some list → IsSilent later)
       → ((list : List Heard) (x : Known) → mid.takers.heard ≡ Some list → Knows play x
       → Knows next (tell (deliveries_among list) mid.text x))
-      → LinesServed given tells past faults s run (line ∷ []) k new later next
+      → LinesServed given facts s run (line ∷ []) k new later next
   line-served hears run line k old new before mid later play next so served silent knows =
       let S : ClusterSetup = setup_in s run in
       let c : Cluster = cluster_in s run in
@@ -161,18 +159,18 @@ module _ {D : Type 0} (given : Giving D) (tells : D → Bool) (past : D → List
 
   -- a run that goes on twice goes on
   plays-both : (run : Run) (a b : List ClusterEvent) (k : Known) (held : Nodes D) (told : Outcome) (play : Play)
-      → Plays given tells past faults s (run_with (run_with run a) b) held told play k
-      → Plays given tells past faults s (run_with run (a ++ b)) held told play k
+      → Plays given facts s (run_with (run_with run a) b) held told play k
+      → Plays given facts s (run_with run (a ++ b)) held told play k
   plays-both run a b k held told play so =
-      subst (λ (e : List ClusterEvent). Plays given tells past faults s (with_events run e) held told play k)
+      subst (λ (e : List ClusterEvent). Plays given facts s (with_events run e) held told play k)
       (append_assoc run.events a b) so
 
   pub lines-more : (run : Run) (done : List ScriptLine) (line : ScriptLine) (k : Known) (mid new : Nodes D)
       (before later : Outcome) (play next : Play)
-      → (first : LinesServed given tells past faults s run done k mid before play)
-      → LinesServed given tells past faults s (run_with run first.more) (line ∷ [])
+      → (first : LinesServed given facts s run done k mid before play)
+      → LinesServed given facts s (run_with run first.more) (line ∷ [])
       (know (setup_in s run) (cluster_in s run) first.more k) new later next
-      → LinesServed given tells past faults s run (done ++ line ∷ []) k new later next
+      → LinesServed given facts s run (done ++ line ∷ []) k new later next
   lines-more run done line k mid new before later play next first second =
       let S : ClusterSetup = setup_in s run in
       let c : Cluster = cluster_in s run in
@@ -184,7 +182,7 @@ module _ {D : Type 0} (given : Giving D) (tells : D → Bool) (past : D → List
             (subst (λ (d : Cluster). IsLine S line d second.more) at
             (line-alone S line (after_all S (run.events ++ first.more)) second.more second.allowed));
         plays = plays-both run first.more second.more (know S c (first.more ++ second.more) k) new later next
-            (subst (λ (x : Known). Plays given tells past faults s (run_with (run_with run first.more) second.more) new later
+            (subst (λ (x : Known). Plays given facts s (run_with (run_with run first.more) second.more) new later
             next x)
             (ap (λ (d : Cluster). know S d second.more (know S c first.more k)) at
             ∙ know-both S c first.more second.more k) second.plays);
@@ -193,21 +191,20 @@ module _ {D : Type 0} (given : Giving D) (tells : D → Bool) (past : D → List
   -- ---- parts
 
   pub parts-none : (run : Run) (k : Known) (held : Nodes D) (told : Outcome) (play : Play)
-      → Plays given tells past faults s run held told play k
-      → PartsDone given tells past faults s run [] k held told play
+      → Plays given facts s run held told play k → PartsDone given facts s run [] k held told play
   parts-none run k held told play so = record {
     more = [];
     later = k;
     are = (refl, refl);
-    plays = subst (λ (e : List ClusterEvent). Plays given tells past faults s (with_events run e) held told play k)
+    plays = subst (λ (e : List ClusterEvent). Plays given facts s (with_events run e) held told play k)
         (sym (append-nil run.events)) so;
   }
 
   -- its lines were served
   pub part-done : (run : Run) (part : Part) (led : Bool) (lines : List ScriptLine) (k : Known) (new : Nodes D)
       (later : Outcome) (next : Play) → led ≡ is_led part (cluster_in s run) → lines ≡ part_lines part led k.drill
-      → LinesServed given tells past faults s run lines (begin_part part k) new later next
-      → PartsDone given tells past faults s run (part ∷ []) k new later next
+      → LinesServed given facts s run lines (begin_part part k) new later next
+      → PartsDone given facts s run (part ∷ []) k new later next
   part-done run part led lines k new later next is are so =
       let S : ClusterSetup = setup_in s run in
       let c : Cluster = cluster_in s run in
@@ -236,9 +233,9 @@ module _ {D : Type 0} (given : Giving D) (tells : D → Bool) (past : D → List
 
   pub parts-more : (run : Run) (done : List Part) (part : Part) (k : Known) (mid new : Nodes D)
       (before later : Outcome) (play next : Play)
-      → (first : PartsDone given tells past faults s run done k mid before play)
-      → PartsDone given tells past faults s (run_with run first.more) (part ∷ []) first.later new later next
-      → PartsDone given tells past faults s run (done ++ part ∷ []) k new later next
+      → (first : PartsDone given facts s run done k mid before play)
+      → PartsDone given facts s (run_with run first.more) (part ∷ []) first.later new later next
+      → PartsDone given facts s run (done ++ part ∷ []) k new later next
   parts-more run done part k mid new before later play next first second =
       let S : ClusterSetup = setup_in s run in
       let c : Cluster = cluster_in s run in

@@ -1,10 +1,11 @@
 -- What a dump has done.
-use Rattle.std.proofs.Common.{◌≡◌, ◌⊎◌, ◌≤◌, ℕ, Bool, List, ◌++◌, inl, inr, refl, ap, subst, ◌∙◌, arith}
+use Rattle.std.proofs.Common.{◌≡◌, ◌⊎◌, ◌≤◌, ℕ, List, ◌++◌, inl, inr, refl, ap, subst, ◌∙◌, arith}
 use Rattle.std.specs.Prelude.{IsTrue}
 use Rattle.std.specs.Io.KnownBytes.{Keeps}
 use Rattle.qq_base.specs.Causes.{Rose}
 use Rattle.qq_base.specs.declared.ids.NodeId.{NodeId}
-use Rattle.qq_disk.specs.Disk.{Disk, now}
+use Rattle.qq_disk.specs.Disk.{now}
+use Rattle.qq_disk.specs.Facts.{DiskFacts}
 use Rattle.qq_dump.specs.Files.{LogFile, dump_text, log_files}
 use Rattle.qq_dump.specs.Written.{WritesWhole}
 use Rattle.qq_ports.specs.declared.yard_fault.YardFault.{YardFault}
@@ -70,11 +71,11 @@ seven fault ending a b Stands (inr none) (inl (is, so)) =
     let same : 7 ≡ 12 = is ∙ ap (λ (e : Ending). e.status) none in absurd (omega (arith, same))
 seven fault ending a b Stands (inr none) (inr (is, rose, part)) = let same : 7 ≡ 6 = is in absurd (omega (arith, same))
 
-module _ {D : Type 0} (given : Giving D) (tells : D → Bool) (past : D → List Disk) (faults : D → ℕ) (node : NodeId)
-    (before later : Streams) (yard yard' : ℕ) where
+module _ {D : Type 0} (given : Giving D) (facts : DiskFacts D) (node : NodeId) (before later : Streams)
+    (yard yard' : ℕ) where
   abbrev Ends : ℕ → Type 0
   Ends status =
-      DumpEnds given tells past faults status node before later yard yard'
+      DumpEnds given facts status node before later yard yard'
 
   pub dump-status : (status : ℕ) → Ends status
       → (status ≡ 0) ⊎ ((status ≡ 6) ⊎ ((status ≡ 7) ⊎ (status ≡ 12)))
@@ -84,7 +85,7 @@ module _ {D : Type 0} (given : Giving D) (tells : D → Bool) (past : D → List
   dump-status status (inr so) = by so.has
     where
       disk : Type 0
-      disk = Rose (faults so.first) (faults so.last)
+      disk = Rose (facts.faults so.first) (facts.faults so.last)
 
       by : HasDumped status disk so.files before.sink later.sink
           → (status ≡ 0) ⊎ ((status ≡ 6) ⊎ ((status ≡ 7) ⊎ (status ≡ 12)))
@@ -96,19 +97,19 @@ module _ {D : Type 0} (given : Giving D) (tells : D → Bool) (past : D → List
           (which disk cut.ending cut.may) cut.closes)
 
   pub dump-done : Ends 0
-      → (disk : D) × IsGiven given tells past node.0 disk × Keeps before.source.left later.source.left
-      × (IsTrue (tells disk) → Writes before.sink later.sink (dump_text (log_files (now (past disk)))))
+      → (disk : D) × IsGiven given facts node.0 disk × Keeps before.source.left later.source.left
+      × (IsTrue (facts.tells disk) → Writes before.sink later.sink (dump_text (log_files (now (facts.past disk)))))
   dump-done (inl un) =
       absurd (zero-no 0 refl (closed 0 un.ending before.sink later.sink (Writes before.sink later.sink)
       (which (Rose yard yard') un.ending un.may) un.closes))
   dump-done (inr so) = by so.has
     where
       disk : Type 0
-      disk = Rose (faults so.first) (faults so.last)
+      disk = Rose (facts.faults so.first) (facts.faults so.last)
 
       by : HasDumped 0 disk so.files before.sink later.sink
-          → (d : D) × IsGiven given tells past node.0 d × Keeps before.source.left later.source.left
-          × (IsTrue (tells d) → Writes before.sink later.sink (dump_text (log_files (now (past d)))))
+          → (d : D) × IsGiven given facts node.0 d × Keeps before.source.left later.source.left
+          × (IsTrue (facts.tells d) → Writes before.sink later.sink (dump_text (log_files (now (facts.past d)))))
       by (inl (is, grown)) = (
         so.first,
         so.given_is,
@@ -123,17 +124,17 @@ module _ {D : Type 0} (given : Giving D) (tells : D → Bool) (past : D → List
 
   pub dump-failed : Ends 7
       → Rose yard yard'
-      ⊎ ((disk : D) × IsGiven given tells past node.0 disk × ((last : D) × Rose (faults disk) (faults last)))
+      ⊎ ((disk : D) × IsGiven given facts node.0 disk × ((last : D) × Rose (facts.faults disk) (facts.faults last)))
   dump-failed (inl un) =
       inl (seven (Rose yard yard') un.ending before.sink later.sink (Writes before.sink later.sink) un.may un.closes)
   dump-failed (inr so) = by so.has
     where
       disk : Type 0
-      disk = Rose (faults so.first) (faults so.last)
+      disk = Rose (facts.faults so.first) (facts.faults so.last)
 
       by : HasDumped 7 disk so.files before.sink later.sink
           → Rose yard yard'
-          ⊎ ((d : D) × IsGiven given tells past node.0 d × ((last : D) × Rose (faults d) (faults last)))
+          ⊎ ((d : D) × IsGiven given facts node.0 d × ((last : D) × Rose (facts.faults d) (facts.faults last)))
       by (inl (is, grown)) = let same : 7 ≡ 0 = is in absurd (omega (arith, same))
       by (inr (inl cut)) = let same : 7 ≡ 6 = cut.0 in absurd (omega (arith, same))
       by (inr (inr cut)) =

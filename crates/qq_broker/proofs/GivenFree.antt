@@ -1,9 +1,9 @@
 -- Takers that the events of a run give to consumers are free then.
-use Rattle.std.proofs.Common.{◌≡◌, ◌∙◌, ℕ, Bool, true, List, [], ◌∷◌, ◌++◌, ap, sym, subst}
-use Rattle.qq_disk.specs.Disk.{Disk}
+use Rattle.std.proofs.Common.{◌≡◌, ◌∙◌, ℕ, true, List, [], ◌∷◌, ◌++◌, ap, sym, subst}
 use Rattle.qq_disk.specs.declared.image.Image.{Image}
 use Rattle.qq_base.specs.declared.ids.QueueId.{QueueId}
 use Rattle.qq_base.specs.declared.ids.SessionId.{SessionId}
+use Rattle.qq_disk.specs.Facts.{DiskFacts}
 use Rattle.qq_setup.specs.declared.setup.Setup.{Setup}
 use Rattle.qq_script_lines.specs.declared.line.ScriptLine.{ScriptLine}
 use Rattle.qq_script_lines.specs.declared.line.ScriptLine.TheVariants.{Attach}
@@ -93,14 +93,12 @@ line-free setup line c events takers so free = other-line setup line c events ta
 
 -- ---- a run with its takers
 
-module _ {D : Type 0} (given : Giving D) (tells : D → Bool) (past : D → List Disk) (faults : D → ℕ) (s : Setup)
-    (first : Takers) where
+module _ {D : Type 0} (given : Giving D) (facts : DiskFacts D) (s : Setup) (first : Takers) where
   -- an opening begins it
   pub opened-all : (held : Nodes D) (text : List ℕ) (later : Outcome)
-      → HasOpened (Had given tells past faults) s (Holds given tells past faults s held)
+      → HasOpened (Had given facts) s (Holds given facts s held) (record { text = text; takers = first }) later
+      → HasOpened (RunHad given facts first) s (HoldsAll given facts s first held later.takers)
       (record { text = text; takers = first }) later
-      → HasOpened (RunHad given tells past faults first) s
-      (HoldsAll given tells past faults s first held later.takers) (record { text = text; takers = first }) later
   opened-all held text later so =
       let setup : ClusterSetup = cluster_over s so.logs in
       let gave = opening-free setup (new_cluster setup) so.events first so.allowed in
@@ -118,11 +116,11 @@ module _ {D : Type 0} (given : Giving D) (tells : D → Bool) (past : D → List
 
   -- a line goes on with it
   pub served-all : (run : Run) (line : ScriptLine) (old new : Nodes D) (before later : Outcome)
-      → HoldsAll given tells past faults s first old before.takers run → AsksFree line before.takers
-      → HasServed (Had given tells past faults) (setup_in s run) run.events line
-      (λ events. Holds given tells past faults s new (run_after run events)) before later
-      → HasServed (RunHad given tells past faults first) (setup_in s run) run.events line
-      (λ events. HoldsAll given tells past faults s first new later.takers (run_after run events)) before later
+      → HoldsAll given facts s first old before.takers run → AsksFree line before.takers
+      → HasServed (Had given facts) (setup_in s run) run.events line
+      (λ events. Holds given facts s new (run_after run events)) before later
+      → HasServed (RunHad given facts first) (setup_in s run) run.events line
+      (λ events. HoldsAll given facts s first new later.takers (run_after run events)) before later
   served-all run line old new before later h free so =
       let setup : ClusterSetup = setup_in s run in
       let c : Cluster = cluster_in s run in

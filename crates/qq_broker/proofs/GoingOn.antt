@@ -14,6 +14,7 @@ use Rattle.qq_base.specs.declared.memory.Memory.{Memory}
 use Rattle.qq_base.specs.declared.memory.Memory.TheVariants.{Want, Spent}
 use Rattle.qq_disk.specs.declared.image.Image.{Image}
 use Rattle.qq_disk.specs.Disk.{Disk, now}
+use Rattle.qq_disk.specs.Facts.{DiskFacts}
 use Rattle.qq_disk.proofs.Moments.{adds-none}
 use Rattle.qq_model.proofs.Soundness.{Contains-in}
 use Rattle.qq_raft_protocol.specs.Facts.{In}
@@ -78,17 +79,17 @@ node-in n before less =
     Contains-in (before + 1) (range_with_len 1 n)
     (range-in (before + 1) 1 n (omega arith) (omega (arith, less)))
 
-module _ {D : Type 0} (given : Giving D) (tells : D → Bool) (past : D → List Disk) (faults : D → ℕ) where
+module _ {D : Type 0} (given : Giving D) (facts : DiskFacts D) where
   abbrev See : Nodes D → ℕ → Seen
-  See held = seen tells past faults held
+  See held = seen facts held
 
   abbrev Of : D → Seen
-  Of d = seen_of tells past faults d
+  Of d = seen_of facts d
 
   -- ---- the disks
 
-  pub disk-there : (setup : ClusterSetup) (held : Nodes D) (c : Cluster) → Stands tells past setup held c → (k : ℕ)
-      → In k setup.nodes → (d : D) × IsDiskOf tells past faults held k d
+  pub disk-there : (setup : ClusterSetup) (held : Nodes D) (c : Cluster) → Stands facts setup held c → (k : ℕ)
+      → In k setup.nodes → (d : D) × IsDiskOf facts held k d
   disk-there setup held c st k there =
       let within = in-range k 1 (length held.nodes.items) (subst (In k) st.set_up.nodes there) in
       at (omega (arith, within.0)) (slice_get_cases held.nodes.items (k - 1)).1 (omega (arith, within.0, within.1))
@@ -96,10 +97,10 @@ module _ {D : Type 0} (given : Giving D) (tells : D → Bool) (past : D → List
       at : 0 < k → ((x : Node D) × (k - 1 < length held.nodes.items) × (slice_get held.nodes.items (k - 1) ≡ Some x)
           × (get_or held.nodes.items (k - 1) x ≡ x))
           ⊎ ((length held.nodes.items ≤ k - 1) × (slice_get held.nodes.items (k - 1) ≡ None))
-          → k - 1 < length held.nodes.items → (d : D) × IsDiskOf tells past faults held k d
+          → k - 1 < length held.nodes.items → (d : D) × IsDiskOf facts held k d
       at low (inl (node, lt, here, is)) within =
           let n = st.nodes (k - 1) node here in
-          (disk_in n.own, seen-own tells past faults held k node n.own low here n.log_is)
+          (disk_in n.own, seen-own facts held k node n.own low here n.log_is)
       at low (inr (out, none)) within = absurd (omega (arith, out, within))
 
   -- ---- events that a call has served
@@ -107,24 +108,25 @@ module _ {D : Type 0} (given : Giving D) (tells : D → Bool) (past : D → List
   -- what a call has done to a node's disk
   pub served-disk : (setup : ClusterSetup) (c : Cluster) (Allowed : List ClusterEvent → Type 0) (After : Cluster → Type 0)
       (old new : Nodes D) (before later : Outcome) (s : Serves setup c Allowed After (See old) (See new) before later)
-      (k : ℕ) → In k setup.nodes → failures k s.did.events ≤ 1 → (mid last : D) → IsDiskOf tells past faults old k mid
-      → IsDiskOf tells past faults new k last → IsOneDisk tells past faults setup k c s.did.events mid last
+      (k : ℕ) → In k setup.nodes → failures k s.did.events ≤ 1 → (mid last : D) → IsDiskOf facts old k mid
+      → IsDiskOf facts new k last → IsOneDisk facts setup k c s.did.events mid last
   served-disk setup c Allowed After old new before later s k there few mid last was is = record {
     told = sym (ap (λ (v : Seen). v.tells) is) ∙ s.did.told k ∙ ap (λ (v : Seen). v.tells) was;
     rose = elim (fails-some k s.did.events) [
       | inl none ↦
           let rises : (See old k).faults ≤ (See new k).faults = s.rises k in
-          let a : (See old k).faults ≡ faults mid = ap (λ (v : Seen). v.faults) was in
-          let b : (See new k).faults ≡ faults last = ap (λ (v : Seen). v.faults) is in
+          let a : (See old k).faults ≡ facts.faults mid = ap (λ (v : Seen). v.faults) was in
+          let b : (See new k).faults ≡ facts.faults last = ap (λ (v : Seen). v.faults) is in
           inl (omega (arith, none, rises, a, b))
       | inr some ↦
-          let rose : Rose (faults mid) (faults last) =
-          subst (λ (n : ℕ). Rose n (faults last)) (ap (λ (v : Seen). v.faults) was)
+          let rose : Rose (facts.faults mid) (facts.faults last) =
+          subst (λ (n : ℕ). Rose n (facts.faults last)) (ap (λ (v : Seen). v.faults) was)
           (subst (λ (n : ℕ). Rose (See old k).faults n) (ap (λ (v : Seen). v.faults) is) (s.cause k some)) in
-          rose-few (failures k s.did.events) (faults mid) (faults last) few (rose-once (faults mid) (faults last) rose)
+          rose-few (failures k s.did.events) (facts.faults mid) (facts.faults last) few
+          (rose-once (facts.faults mid) (facts.faults last) rose)
     ];
     traced = λ tell linked.
-        subst (λ (l : List Disk). IsTracedAt setup c k s.did.events l (past last)) (ap (λ (v : Seen). v.past) was)
+        subst (λ (l : List Disk). IsTracedAt setup c k s.did.events l (facts.past last)) (ap (λ (v : Seen). v.past) was)
         (subst (λ (l : List Disk). IsTracedAt setup c k s.did.events (See old k).past l) (ap (λ (v : Seen). v.past) is)
         (s.did.moments k there
         (subst IsTrue (sym (ap (λ (v : Seen). v.tells) was)) tell)
@@ -137,35 +139,33 @@ module _ {D : Type 0} (given : Giving D) (tells : D → Bool) (past : D → List
 
   -- a disk has become another one by more events
   abbrev Grown : ClusterSetup → List ClusterEvent → List ClusterEvent → ℕ → D → Type 0
-  Grown setup events more k last = Became given tells past faults setup (events ++ more) k last
+  Grown setup events more k last = Became given facts setup (events ++ more) k last
 
   pub became-served : (setup : ClusterSetup) (events : List ClusterEvent) (Allowed : List ClusterEvent → Type 0)
       (After : Cluster → Type 0) (old new : Nodes D) (before later : Outcome)
       (s : Serves setup (after_all setup events) Allowed After (See old) (See new) before later)
-      (k : ℕ) → In k setup.nodes → failures k s.did.events ≤ 1 → (mid last : D) → IsDiskOf tells past faults old k mid
-      → IsDiskOf tells past faults new k last → is_some (first_restart k events) ≡ true
-      → Became given tells past faults setup events k mid → Grown setup events s.did.events k last
+      (k : ℕ) → In k setup.nodes → failures k s.did.events ≤ 1 → (mid last : D) → IsDiskOf facts old k mid
+      → IsDiskOf facts new k last → is_some (first_restart k events) ≡ true
+      → Became given facts setup events k mid → Grown setup events s.did.events k last
   became-served setup events Allowed After old new before later s k there few mid last was is restarted b = record {
     first = b.first;
     given_is = b.given_is;
-    begins = begins-stay tells past faults setup k b.first events s.did.events restarted b.begins;
-    lives = lives-then given tells past faults setup k (after_all setup events) (new_cluster setup) [] events
-        s.did.events b.first mid last refl b.lives
-        (goes-on given tells past faults setup k (after_all setup events) s.did.events mid last (s.no_crash k)
+    begins = begins-stay facts setup k b.first events s.did.events restarted b.begins;
+    lives = lives-then given facts setup k (after_all setup events) (new_cluster setup) [] events s.did.events b.first
+        mid last refl b.lives
+        (goes-on given facts setup k (after_all setup events) s.did.events mid last (s.no_crash k)
         (served-disk setup (after_all setup events) Allowed After old new before later s k there few mid last was is));
   }
 
   -- nodes stand for the run with these events more
   pub holds-more : (s : Setup) (run : Run) (old new : Nodes D) (more : List ClusterEvent) (lines : ℕ)
-      → Holds given tells past faults s old run
-      → Stands tells past (setup_in s run) new (cluster_after (cluster_in s run) more)
-      → ((k : ℕ) → In k (setup_in s run).nodes → (mid last : D) → IsDiskOf tells past faults old k mid
-      → IsDiskOf tells past faults new k last → is_some (first_restart k run.events) ≡ true
-      → Became given tells past faults (setup_in s run) run.events k mid
-      → Grown (setup_in s run) run.events more k last)
-      → Holds given tells past faults s new (record { lines = lines; logs = run.logs; events = run.events ++ more })
+      → Holds given facts s old run → Stands facts (setup_in s run) new (cluster_after (cluster_in s run) more)
+      → ((k : ℕ) → In k (setup_in s run).nodes → (mid last : D) → IsDiskOf facts old k mid
+      → IsDiskOf facts new k last → is_some (first_restart k run.events) ≡ true
+      → Became given facts (setup_in s run) run.events k mid → Grown (setup_in s run) run.events more k last)
+      → Holds given facts s new (record { lines = lines; logs = run.logs; events = run.events ++ more })
   holds-more s run old new more lines h st grows = record {
-    stands = subst (Stands tells past (setup_in s run) new)
+    stands = subst (Stands facts (setup_in s run) new)
         (sym (after-both (new_cluster (setup_in s run)) run.events more)) st;
     restarted = λ k there. restarted-stays k run.events more (h.restarted k there);
     disks = λ k there.
@@ -177,30 +177,29 @@ module _ {D : Type 0} (given : Giving D) (tells : D → Bool) (past : D → List
         );
   }
 
-  pub had-so : (s : Setup) (held : Nodes D) (run : Run) → Holds given tells past faults s held run
-      → Had given tells past faults (setup_in s run) run.events
+  pub had-so : (s : Setup) (held : Nodes D) (run : Run) → Holds given facts s held run
+      → Had given facts (setup_in s run) run.events
   had-so s held run h = λ k there. (let was = h.disks k there in (was.0, was.2))
 
   pub reached : (s : Setup) (run : Run) → IsReached (setup_in s run) (cluster_in s run)
   reached s run = (run.events, refl)
 
-  pub can-serve : (s : Setup) (held : Nodes D) (run : Run) → Holds given tells past faults s held run
-      → CanServe tells past held
+  pub can-serve : (s : Setup) (held : Nodes D) (run : Run) → Holds given facts s held run → CanServe facts held
   can-serve s held run h = (setup_in s run, cluster_in s run, reached s run, h.stands)
 
   -- ---- a line
 
   pub served-line : (s : Setup) (run : Run) (line : ScriptLine) (Allowed : List ClusterEvent → Type 0)
-      (old new : Nodes D) (before later : Outcome) → Holds given tells past faults s old run
+      (old new : Nodes D) (before later : Outcome) → Holds given facts s old run
       → ((events : List ClusterEvent) → Allowed events → IsLine (setup_in s run) line (cluster_in s run) events)
-      → Serves (setup_in s run) (cluster_in s run) Allowed (Stands tells past (setup_in s run) new) (See old) (See new)
+      → Serves (setup_in s run) (cluster_in s run) Allowed (Stands facts (setup_in s run) new) (See old) (See new)
       before later
-      → IsServed given tells past faults s run line new before later
+      → IsServed given facts s run line new before later
   served-line s run line Allowed old new before later h lines sv =
       let allowed = lines sv.did.events sv.did.means in
       let holds = holds-more s run old new sv.did.events (run.lines + 1) h sv.did.stands
       (λ k there mid last was is restarted b. became-served (setup_in s run) run.events Allowed
-      (Stands tells past (setup_in s run) new) old new before later sv k there
+      (Stands facts (setup_in s run) new) old new before later sv k there
       (line-once k (setup_in s run) (length old.nodes.items) h.stands.set_up.nodes line (cluster_in s run) sv.did.events
       allowed) mid last was is restarted b) in
       record {
@@ -213,11 +212,10 @@ module _ {D : Type 0} (given : Giving D) (tells : D → Bool) (past : D → List
       }
 
   pub served : (s : Setup) (run : Run) (line : ScriptLine) (Rule : ClusterSetup → Cluster → List ClusterEvent → Type 0)
-      (old new : Nodes D) (before later : Outcome) → Holds given tells past faults s old run
+      (old new : Nodes D) (before later : Outcome) → Holds given facts s old run
       → ((events : List ClusterEvent) → Rule (setup_in s run) (cluster_in s run) events
       → IsLine (setup_in s run) line (cluster_in s run) events)
-      → Served tells past faults Rule old new before later
-      → IsServed given tells past faults s run line new before later
+      → Served facts Rule old new before later → IsServed given facts s run line new before later
   served s run line Rule old new before later h lines so =
       served-line s run line (Rule (setup_in s run) (cluster_in s run)) old new before later h lines
       (so.serves (setup_in s run) (cluster_in s run) (reached s run) h.stands)
@@ -229,20 +227,20 @@ module _ {D : Type 0} (given : Giving D) (tells : D → Bool) (past : D → List
   few-early k early rest few = omega (arith, failures-both k early rest, few)
 
   pub ends-spent : (s : Setup) (run : Run) (Rule Allows : Cluster → List ClusterEvent → Type 0) (old : Nodes D)
-      (before after number : ℕ) → Holds given tells past faults s old run
+      (before after number : ℕ) → Holds given facts s old run
       → ((c : Cluster) (events : List ClusterEvent) → Rule c events → Allows c events)
       → ((k : ℕ) (events : List ClusterEvent) → Allows (cluster_in s run) events → failures k events ≤ 1)
-      → EndsAt tells past faults (setup_in s run) Rule old (cluster_in s run) number
-      → EndsSpent (Meets given tells past faults before after) (setup_in s run) Allows run.events (spent number)
+      → EndsAt facts (setup_in s run) Rule old (cluster_in s run) number
+      → EndsSpent (Meets given facts before after) (setup_in s run) Allows run.events (spent number)
   ends-spent s run Rule Allows old before after number h lines once so =
       let early : List ClusterEvent = so.serves.did.events in
       let rest : List ClusterEvent = so.serves.did.means.rest in
       let allowed : Allows (cluster_in s run) (early ++ rest) =
       lines (cluster_in s run) (early ++ rest) so.serves.did.means.allowed in
-      let now' : Holds given tells past faults s so.mid (record { lines = 0; logs = run.logs; events = run.events ++ early }) =
+      let now' : Holds given facts s so.mid (record { lines = 0; logs = run.logs; events = run.events ++ early }) =
       holds-more s run old so.mid early 0 h so.serves.did.stands
       (λ k there mid last was is restarted b. became-served (setup_in s run) run.events (Begins Rule (cluster_in s run))
-      (Stands tells past (setup_in s run) so.mid) old so.mid so.before so.said so.serves k there
+      (Stands facts (setup_in s run) so.mid) old so.mid so.before so.said so.serves k there
       (few-early k early rest (once k (early ++ rest) allowed)) mid last was is restarted b) in
       record {
         early = early;
@@ -255,11 +253,11 @@ module _ {D : Type 0} (given : Giving D) (tells : D → Bool) (past : D → List
 
   pub given-up : (s : Setup) (run : Run) (line : ScriptLine)
       (Rule : ClusterSetup → Cluster → List ClusterEvent → Type 0)
-      (old left : Nodes D) (before after : ℕ) (memory : Memory) → Holds given tells past faults s old run
+      (old left : Nodes D) (before after : ℕ) (memory : Memory) → Holds given facts s old run
       → ((c : Cluster) (events : List ClusterEvent) → Rule (setup_in s run) c events
       → IsLine (setup_in s run) line c events)
-      → GaveUp tells past faults Rule old left memory
-      → IsGivenUp (Meets given tells past faults before after) (setup_in s run) run.events line memory
+      → GaveUp facts Rule old left memory
+      → IsGivenUp (Meets given facts before after) (setup_in s run) run.events line memory
   given-up s run line Rule old left before after Want h lines so = tt
   given-up s run line Rule old left before after (Spent number) h lines so =
       ends-spent s run (Rule (setup_in s run)) (IsLine (setup_in s run) line) old before after number h lines
@@ -268,7 +266,7 @@ module _ {D : Type 0} (given : Giving D) (tells : D → Bool) (past : D → List
 
   -- ---- what is there
 
-  pub node-there : (s : Setup) (run : Run) (held : Nodes D) (node : NodeId) → Holds given tells past faults s held run
+  pub node-there : (s : Setup) (run : Run) (held : Nodes D) (node : NodeId) → Holds given facts s held run
       → Contains (setup_in s run).nodes node.0 → IsNodeAt node held
   node-there s run held node h there =
       let within = contains-range node.0 1 (length held.nodes.items)
@@ -276,109 +274,104 @@ module _ {D : Type 0} (given : Giving D) (tells : D → Bool) (past : D → List
       (omega (arith, within.0), omega (arith, within.1))
 
   pub queue-there : (s : Setup) (run : Run) (held : Nodes D) (queue : QueueId)
-      → Holds given tells past faults s held run
-      → Contains (setup_in s run).places queue.0 → IsQueueAt queue held
+      → Holds given facts s held run → Contains (setup_in s run).places queue.0 → IsQueueAt queue held
   queue-there s run held queue h there =
       let within = contains-range queue.0 1 (length held.queues.items)
       (subst (λ (l : List ℕ). Contains l queue.0) h.stands.set_up.places there) in
       (omega (arith, within.0), omega (arith, within.1))
 
   pub target-there : (s : Setup) (run : Run) (held : Nodes D) (queue : QueueId)
-      → Holds given tells past faults s held run
-      → In queue.0 (setup_in s run).places → IsQueueAt queue held
+      → Holds given facts s held run → In queue.0 (setup_in s run).places → IsQueueAt queue held
   target-there s run held queue h there =
       let within = in-range queue.0 1 (length held.queues.items) (subst (In queue.0) h.stands.set_up.places there) in
       (omega (arith, within.0), omega (arith, within.1))
 
   targets-all : (s : Setup) (run : Run) (held : Nodes D) (queues : List QueueId)
-      → Holds given tells past faults s held run
+      → Holds given facts s held run
       → AreThere s queues → AllByRecursion (λ (queue : QueueId). IsQueueAt queue held) queues
   targets-all s run held [] h there = tt
   targets-all s run held (queue ∷ queues) h there =
       (target-there s run held queue h there.0, targets-all s run held queues h there.1)
 
   pub targets-at : (s : Setup) (run : Run) (held : Nodes D) (queues : List QueueId)
-      → Holds given tells past faults s held run
-      → AreThere s queues → All (λ (queue : QueueId). IsQueueAt queue held) queues
+      → Holds given facts s held run → AreThere s queues → All (λ (queue : QueueId). IsQueueAt queue held) queues
   targets-at s run held queues h there =
       All-from_recursion (λ (queue : QueueId). IsQueueAt queue held) queues (targets-all s run held queues h there)
 
   -- ---- crashes
 
   unseen-crash : (setup : ClusterSetup) (c : Cluster) (k j : ℕ) (image : Image) (d : D) → k ≢ j
-      → IsOneDisk tells past faults setup j c (Crashes k image ∷ []) d d
+      → IsOneDisk facts setup j c (Crashes k image ∷ []) d d
   unseen-crash setup c k j image d other = record {
     told = refl;
     rose = inl (omega arith);
     traced = λ tell linked.
         (let unseen : sees j (Crashes k image) ≡ false = ne_eqb k j other in (
           linked.promised,
-          past d,
-          past d,
-          adds-none (IsPromised setup c j) (past d),
-          subst (λ (b : Bool). KeepsWhere b setup c j (Crashes k image) (past d) (past d)) (sym unseen) refl,
+          facts.past d,
+          facts.past d,
+          adds-none (IsPromised setup c j) (facts.past d),
+          subst (λ (b : Bool). KeepsWhere b setup c j (Crashes k image) (facts.past d) (facts.past d))
+              (sym unseen) refl,
           λ fair.
-              (let later = unseen-linked setup c j (Crashes k image) (now (past d)) unseen linked in (
+              (let later = unseen-linked setup c j (Crashes k image) (now (facts.past d)) unseen linked in (
                 later.promised,
-                adds-none (IsPromised setup (cluster_happens c (Crashes k image)) j) (past d),
+                adds-none (IsPromised setup (cluster_happens c (Crashes k image)) j) (facts.past d),
                 later,
               )),
         ));
   }
 
   pub crashed : (s : Setup) (run : Run) (old new : Nodes D) (k : ℕ) (image : Image)
-      → Holds given tells past faults s old run
-      → ((told : Outcome) → HasHappened tells past faults (λ (setup : ClusterSetup). Is (Crashes k image)) old new
-      told told)
-      → LeavesDisks tells past faults k image old new
-      → Holds given tells past faults s new (with_events run (run.events ++ Crashes k image ∷ []))
+      → Holds given facts s old run
+      → ((told : Outcome) → HasHappened facts (λ (setup : ClusterSetup). Is (Crashes k image)) old new told told)
+      → LeavesDisks facts k image old new
+      → Holds given facts s new (with_events run (run.events ++ Crashes k image ∷ []))
   crashed s run old new k image h happened leaves =
       let setup = setup_in s run in
       let c = cluster_in s run in
       let so = (happened (record { text = []; takers = no_takers })).happened setup c (reached s run) h.stands in
-      let st : Stands tells past setup new (cluster_after c (Crashes k image ∷ [])) =
-      subst (λ (l : List ClusterEvent). Stands tells past setup new (cluster_after c l)) so.means so.stands in
+      let st : Stands facts setup new (cluster_after c (Crashes k image ∷ [])) =
+      subst (λ (l : List ClusterEvent). Stands facts setup new (cluster_after c l)) so.means so.stands in
       holds-more s run old new (Crashes k image ∷ []) run.lines h st (λ j there mid last was is restarted b. record {
         first = b.first;
         given_is = b.given_is;
-        begins = begins-stay tells past faults setup j b.first run.events (Crashes k image ∷ []) restarted b.begins;
-        lives = lives-then given tells past faults setup j c (new_cluster setup) [] run.events (Crashes k image ∷ [])
-            b.first mid last refl b.lives (step j mid last was is);
+        begins = begins-stay facts setup j b.first run.events (Crashes k image ∷ []) restarted b.begins;
+        lives = lives-then given facts setup j c (new_cluster setup) [] run.events (Crashes k image ∷ []) b.first mid
+            last refl b.lives (step j mid last was is);
       })
     where
-      step : (j : ℕ) (mid last : D) → IsDiskOf tells past faults old j mid → IsDiskOf tells past faults new j last
-          → GoesOn given tells past faults (setup_in s run) j (cluster_in s run) (Crashes k image ∷ []) mid last
+      step : (j : ℕ) (mid last : D) → IsDiskOf facts old j mid → IsDiskOf facts new j last
+          → GoesOn given facts (setup_in s run) j (cluster_in s run) (Crashes k image ∷ []) mid last
       step j mid last was is = elim (eqb_tells k j) [
         | inl (e, same) ↦
-            subst (λ (i : ℕ). GoesOn given tells past faults (setup_in s run) i (cluster_in s run)
+            subst (λ (i : ℕ). GoesOn given facts (setup_in s run) i (cluster_in s run)
             (Crashes k image ∷ []) mid last) same
-            (goes-crashed given tells past faults (setup_in s run) k (cluster_in s run) image mid last (left
-            (subst (λ (i : ℕ). IsDiskOf tells past faults old i mid) (sym same) was)
-            (subst (λ (i : ℕ). IsDiskOf tells past faults new i last) (sym same) is)))
+            (goes-crashed given facts (setup_in s run) k (cluster_in s run) image mid last (left
+            (subst (λ (i : ℕ). IsDiskOf facts old i mid) (sym same) was)
+            (subst (λ (i : ℕ). IsDiskOf facts new i last) (sym same) is)))
         | inr (e, other) ↦
-            goes-on given tells past faults (setup_in s run) j (cluster_in s run) (Crashes k image ∷ []) mid last
-            (other, tt) (like (unseen-crash (setup_in s run) (cluster_in s run) k j image mid other)
+            goes-on given facts (setup_in s run) j (cluster_in s run) (Crashes k image ∷ []) mid last (other, tt)
+            (like (unseen-crash (setup_in s run) (cluster_in s run) k j image mid other)
             (sym was ∙ sym (leaves.others j (λ e. other (sym e))) ∙ is))
       ]
         where
-          left : IsDiskOf tells past faults old k mid → IsDiskOf tells past faults new k last
-              → IsLeft given tells past image mid last
+          left : IsDiskOf facts old k mid → IsDiskOf facts new k last → IsLeft given facts image mid last
           left was is = inl (record {
             told = sym (ap (λ (v : Seen). v.tells) is) ∙ leaves.told ∙ ap (λ (v : Seen). v.tells) was;
             left = λ tell.
-                subst (λ (l : List Disk). IsAfterCrash image l (past last)) (ap (λ (v : Seen). v.past) was)
+                subst (λ (l : List Disk). IsAfterCrash image l (facts.past last)) (ap (λ (v : Seen). v.past) was)
                 (subst (λ (l : List Disk). IsAfterCrash image (See old k).past l) (ap (λ (v : Seen). v.past) is)
                 (leaves.left (subst IsTrue (sym (ap (λ (v : Seen). v.tells) was)) tell)));
           })
 
-          like : IsOneDisk tells past faults (setup_in s run) j (cluster_in s run) (Crashes k image ∷ []) mid mid
-              → Of mid ≡ Of last
-              → IsOneDisk tells past faults (setup_in s run) j (cluster_in s run) (Crashes k image ∷ []) mid last
+          like : IsOneDisk facts (setup_in s run) j (cluster_in s run) (Crashes k image ∷ []) mid mid → Of mid ≡ Of last
+              → IsOneDisk facts (setup_in s run) j (cluster_in s run) (Crashes k image ∷ []) mid last
           like one same = record {
             told = sym (ap (λ (v : Seen). v.tells) same) ∙ one.told;
-            rose = subst (RoseBy (failures j (Crashes k image ∷ [])) (faults mid)) (ap (λ (v : Seen). v.faults) same)
-                one.rose;
+            rose = subst (RoseBy (failures j (Crashes k image ∷ [])) (facts.faults mid))
+                (ap (λ (v : Seen). v.faults) same) one.rose;
             traced = λ tell linked.
-                subst (IsTracedAt (setup_in s run) (cluster_in s run) j (Crashes k image ∷ []) (past mid))
+                subst (IsTracedAt (setup_in s run) (cluster_in s run) j (Crashes k image ∷ []) (facts.past mid))
                 (ap (λ (v : Seen). v.past) same) (one.traced tell linked);
           }

@@ -1,8 +1,8 @@
 -- A taker that a line is to give to a consumer is free, or the line is refused.
-use Rattle.std.proofs.Common.{◌≡◌, ℕ, Bool, false, List, Result, Ok, Err, refl, inr, subst}
+use Rattle.std.proofs.Common.{◌≡◌, ℕ, false, List, Result, Ok, Err, refl, inr, subst}
 use Rattle.std.specs.Prelude.{IfErr, OnOk}
 use Rattle.std.proofs.lemmas.Result.{IfErr-weaker}
-use Rattle.qq_disk.specs.Disk.{Disk}
+use Rattle.qq_disk.specs.Facts.{DiskFacts}
 use Rattle.qq_script_lines.specs.declared.line.ScriptLine.{ScriptLine}
 use Rattle.qq_script_lines.specs.declared.line.ScriptLine.TheVariants.{Attach}
 use Rattle.qq_setup.specs.declared.setup.Setup.{Setup}
@@ -24,14 +24,13 @@ use Rattle.qq_broker.proofs.Meeting.{run-meets}
 
 -- ---- there is no such taker
 
-pub gone-caused : {D : Type 0} (given : Giving D) (tells : D → Bool) (past : D → List Disk) (faults : D → ℕ)
-    (first takers : Takers) (before after : ℕ) (s : Setup) (setup : ClusterSetup) (events : List ClusterEvent)
+pub gone-caused : {D : Type 0} (given : Giving D) (facts : DiskFacts D) (first takers : Takers) (before after : ℕ)
+    (s : Setup) (setup : ClusterSetup) (events : List ClusterEvent)
     (number : ℕ) (line : ScriptLine) → takers ≡ all_seen setup events first → AsksGone line takers
-    → HasServeCause (RunMeets given tells past faults first before after) setup events number line
-    (step_stop s number NoSuch)
-gone-caused given tells past faults first takers before after s setup events number (Attach by at tag taker) seen gone =
+    → HasServeCause (RunMeets given facts first before after) setup events number line (step_stop s number NoSuch)
+gone-caused given facts first takers before after s setup events number (Attach by at tag taker) seen gone =
     inr (subst (λ (all : Takers). is_free taker all ≡ false) seen gone, refl)
-gone-caused given tells past faults first takers before after s setup events number _ seen gone = absurd gone
+gone-caused given facts first takers before after s setup events number _ seen gone = absurd gone
 
 -- ---- another fault
 
@@ -61,22 +60,20 @@ cause-earlier met met' f setup events number line (asks.Ended ending) so =
     may_stop_earlier met met' f setup events number line ending so
 cause-earlier met met' f setup events number line asks.NoMemory so = tt
 
-pub run-causes : {A D : Type 0} (given : Giving D) (tells : D → Bool) (past : D → List Disk) (faults : D → ℕ)
-    (first : Takers) (before after : ℕ) (s : Setup) (setup : ClusterSetup) (events : List ClusterEvent) (number : ℕ)
+pub run-causes : {A D : Type 0} (given : Giving D) (facts : DiskFacts D) (first : Takers) (before after : ℕ) (s : Setup)
+    (setup : ClusterSetup) (events : List ClusterEvent) (number : ℕ)
     (line : ScriptLine) (r : Result A StepFault)
-    → IfErr r (λ fault. HasServeCause (Meets given tells past faults before after) setup events number line
+    → IfErr r (λ fault. HasServeCause (Meets given facts before after) setup events number line
     (step_stop s number fault))
-    → IfErr r (λ fault. HasServeCause (RunMeets given tells past faults first before after) setup events number line
+    → IfErr r (λ fault. HasServeCause (RunMeets given facts first before after) setup events number line
     (step_stop s number fault))
-run-causes given tells past faults first before after s setup events number line r =
+run-causes given facts first before after s setup events number line r =
     IfErr-weaker r
-    (λ fault. HasServeCause (Meets given tells past faults before after) setup events number line
+    (λ fault. HasServeCause (Meets given facts before after) setup events number line (step_stop s number fault))
+    (λ fault. HasServeCause (RunMeets given facts first before after) setup events number line
     (step_stop s number fault))
-    (λ fault. HasServeCause (RunMeets given tells past faults first before after) setup events number line
-    (step_stop s number fault))
-    (λ fault so. cause-earlier (Meets given tells past faults before after)
-    (RunMeets given tells past faults first before after) (run-meets given tells past faults first before after) setup
-    events number line (step_stop s number fault) so)
+    (λ fault so. cause-earlier (Meets given facts before after) (RunMeets given facts first before after)
+    (run-meets given facts first before after) setup events number line (step_stop s number fault) so)
 
 -- ---- a line that is served, and one that is refused
 

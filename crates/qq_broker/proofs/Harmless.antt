@@ -1,11 +1,11 @@
 -- So its status is neither that of a damage nor that of a loss.
-use Rattle.std.proofs.Common.{◌≡◌, ◌⊎◌, ◌+◌, ℕ, Bool, List, [], ◌∷◌, Result, Ok, Err, Option, Some, refl, sym, ap, subst, ◌∙◌, inl, inr, arith}
+use Rattle.std.proofs.Common.{◌≡◌, ◌⊎◌, ◌+◌, ℕ, List, [], ◌∷◌, Result, Ok, Err, Option, Some, refl, sym, ap, subst, ◌∙◌, inl, inr, arith}
 use Rattle.std.specs.Prelude.{IfSome, IsTrue}
 use Rattle.std.proofs.lemmas.Bool.{cases_lt}
 use Rattle.qq_base.proofs.Lists.{In-append_left}
 use Rattle.qq_defs.specs.Runnable.{IsRunnable}
 use Rattle.qq_disk.specs.declared.image.Image.{Image}
-use Rattle.qq_disk.specs.Disk.{Disk}
+use Rattle.qq_disk.specs.Facts.{DiskFacts}
 use Rattle.qq_ports.specs.Streams.{Streams, Writes}
 use Rattle.qq_raft_protocol.specs.Facts.{In}
 use Rattle.qq_script_lines.specs.declared.fault.ScriptFault.{ScriptFault}
@@ -85,18 +85,18 @@ asked-by P s line before (input ∷ read) (first ∷ script) asked (inl same) so
 asked-by P s line before (input ∷ read) (first ∷ script) asked (inr there) so =
     asked-by P s line (before + 1) read script asked.1 there (λ number other here is. so number other (inr here) is)
 
-module _ (law : Known) {D : Type 0} (given : Giving D) (tells : D → Bool) (past : D → List Disk) (faults : D → ℕ)
-    (first last : Takers) (before after : ℕ) (s : Setup) (runs : IsRunnable (state_of s)) (all_new : (k : ℕ) → AreNew given tells past k)
-    (shows : (disk : D) → IsTrue (tells disk)) where
+module _ (law : Known) {D : Type 0} (given : Giving D) (facts : DiskFacts D) (first last : Takers) (before after : ℕ)
+    (s : Setup) (runs : IsRunnable (state_of s)) (all_new : (k : ℕ) → AreNew given facts k)
+    (shows : (disk : D) → IsTrue (facts.tells disk)) where
   abbrev Met : Trouble → Type 0
-  Met trouble = RunMeets given tells past faults first before after trouble
+  Met trouble = RunMeets given facts first before after trouble
 
   abbrev pub Claimed : Claims
-  Claimed = RunClaims given tells past faults first last
+  Claimed = RunClaims given facts first last
 
   not-opened : (ending : Ending) → MayNotOpen Met s ending → IsHarm ending.status → ⊥
   not-opened ending (inl so) harm =
-      opens-supported law given tells past faults first before after s runs all_new shows ending so
+      opens-supported law given facts first before after s runs all_new shows ending so
   not-opened ending (inr (logs, inl is)) harm =
       other-harm ending.status 12 (ap (λ (e : Ending). e.status) is) (λ e. absurd (omega (arith, e)))
       (λ e. absurd (omega (arith, e))) harm
@@ -104,12 +104,12 @@ module _ (law : Known) {D : Type 0} (given : Giving D) (tells : D → Bool) (pas
       other-harm ending.status 7 (ap (λ (e : Ending). e.status) is) (λ e. absurd (omega (arith, e)))
       (λ e. absurd (omega (arith, e))) harm
   not-opened ending (inr (logs, inr (inr (inl so)))) harm =
-      opens-whole law given tells past faults first before after s runs all_new shows logs ending so
+      opens-whole law given facts first before after s runs all_new shows logs ending so
   not-opened ending (inr (logs, inr (inr (inr so)))) harm =
       other-harm ending.status 20 (ap (λ (e : Ending). e.status) so.is) (λ e. absurd (omega (arith, e)))
       (λ e. absurd (omega (arith, e))) harm
 
-  module _ (all left : List Input) (b : Behind (RunHad given tells past faults first) s all left)
+  module _ (all left : List Input) (b : Behind (RunHad given facts first) s all left)
       (clean : (nodes : Nodes) (image : Image) → In (lines.Crash nodes image) b.lines → HasNoJunk image) where
     not-stopped : (number : ℕ) (line : ScriptLine) (ending : Ending)
         → StopsAt Met (setup_behind b) b.events number line ending → IsHarm ending.status → ⊥
@@ -120,9 +120,9 @@ module _ (law : Known) {D : Type 0} (given : Giving D) (tells : D → Bool) (pas
         other-harm ending.status 7 (ap (λ (e : Ending). e.status) is) (λ e. absurd (omega (arith, e)))
         (λ e. absurd (omega (arith, e))) harm
     not-stopped number (lines.Restart nodes) ending (inl so) harm =
-        stays-whole law given tells past faults first before after s runs all_new shows all left b clean _ ending so
+        stays-whole law given facts first before after s runs all_new shows all left b clean _ ending so
     not-stopped number (lines.Restart nodes) ending (inr so) harm =
-        loses-nothing law given tells past faults first before after s runs all_new shows all left b clean _ ending so
+        loses-nothing law given facts first before after s runs all_new shows all left b clean _ ending so
     not-stopped number _ ending so harm = absurd so
 
     may-not-stop : (number : ℕ) (line : ScriptLine) (ending : Ending)
@@ -147,8 +147,8 @@ module _ (law : Known) {D : Type 0} (given : Giving D) (tells : D → Bool) (pas
   module _ (begun ended : Streams) (bytes : List ℕ) (known : begun.source.left ≡ Some bytes)
       (clean : (number : ℕ) (input : Input) (nodes : Nodes) (image : Image) → In input (inputs_of bytes)
       → says s number input ≡ Asks (lines.Crash nodes image) → HasNoJunk image) where
-    clean-behind : (left : List Input) (b : Behind (RunHad given tells past faults first) s (inputs_of bytes) left)
-        (nodes : Nodes) (image : Image) → In (lines.Crash nodes image) b.lines → HasNoJunk image
+    clean-behind : (left : List Input) (b : Behind (RunHad given facts first) s (inputs_of bytes) left) (nodes : Nodes)
+        (image : Image) → In (lines.Crash nodes image) b.lines → HasNoJunk image
     clean-behind left b nodes image there =
         asked-by (HasNoJunk image) s (lines.Crash nodes image) 0 b.read b.lines b.asked there
         (λ number input here is. clean number input nodes image

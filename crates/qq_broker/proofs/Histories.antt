@@ -1,5 +1,5 @@
 -- What has become of a given disk, in words: at a crash, and where a call has failed.
-use Rattle.std.proofs.Common.{◌≡◌, ◌⊎◌, ◌≤◌, ◌<◌, ◌+◌, ◌-◌, ◌^◌, ℕ, Bool, true, List, [], ◌∷◌, ◌++◌, length, Option, inl, inr, refl, sym, ap, subst, ◌∙◌, append_assoc}
+use Rattle.std.proofs.Common.{◌≡◌, ◌⊎◌, ◌≤◌, ◌<◌, ◌+◌, ◌-◌, ◌^◌, ℕ, true, List, [], ◌∷◌, ◌++◌, length, Option, inl, inr, refl, sym, ap, subst, ◌∙◌, append_assoc}
 use Rattle.std.specs.Prelude.{IsTrue, filter}
 use Rattle.std.proofs.lemmas.Bool.{eq-eqb}
 use Rattle.qq_base.proofs.Lists.{In-append_cases, list_any-from_in}
@@ -7,6 +7,7 @@ use Rattle.qq_disk.specs.declared.image.Image.{Image}
 use Rattle.qq_disk.specs.declared.name.FileName.{FileName}
 use Rattle.qq_disk.specs.Crash.{reopen}
 use Rattle.qq_disk.specs.Disk.{Disk, now}
+use Rattle.qq_disk.specs.Facts.{DiskFacts}
 use Rattle.qq_disk.specs.Image.{IsNewestLog, image_of}
 use Rattle.qq_disk.specs.Moments.{Adds}
 use Rattle.qq_raft_protocol.specs.Facts.{In}
@@ -22,21 +23,20 @@ use Rattle.qq_broker.specs.Lives.{Became, BeginsBy, Giving, IsByHand, IsGiven, I
 use Rattle.qq_broker.proofs.Lifetimes.{begins-front, cut-there, failure-found, one-disk, rose-some}
 use Rattle.qq_broker.proofs.Living.{goes-on, lives-then, one-none}
 
-module _ {D : Type 0} (given : Giving D) (tells : D → Bool) (past : D → List Disk) (faults : D
-    → ℕ) (setup : Setup) (k : ℕ)
+module _ {D : Type 0} (given : Giving D) (facts : DiskFacts D) (setup : Setup) (k : ℕ)
   where
     abbrev BecameSo : List ClusterEvent → D → Type 0
-    BecameSo events last = Became given tells past faults setup events k last
+    BecameSo events last = Became given facts setup events k last
 
     -- by fewer events
     became-front : (events early late : List ClusterEvent) (last mid : D) → events ≡ early ++ late
-        → (b : BecameSo events last) → Lives given tells past faults setup k (new_cluster setup) [] early b.first mid
+        → (b : BecameSo events last) → Lives given facts setup k (new_cluster setup) [] early b.first mid
         → BecameSo early mid
     became-front events early late last mid is b lives = record {
       first = b.first;
       given_is = b.given_is;
-      begins = begins-front given tells past faults setup k b.first early late
-          (subst (λ (l : List ClusterEvent). BeginsBy tells past setup k b.first (first_restart k l)) is b.begins);
+      begins = begins-front given facts setup k b.first early late
+          (subst (λ (l : List ClusterEvent). BeginsBy facts setup k b.first (first_restart k l)) is b.begins);
       lives = lives;
     }
 
@@ -48,20 +48,22 @@ module _ {D : Type 0} (given : Giving D) (tells : D → Bool) (past : D → List
     -- the new disk holds what the image leaves of the old one, opened again
     abbrev pub IsNamed : Image → D → D → Type 0
     IsNamed image old new =
-        (tells new ≡ tells old)
-        × (IsTrue (tells old) → (newest : Option FileName) × IsNewestLog (now (past old)) image.removed_back newest
-        × (past new ≡ reopen (image_of image newest (now (past old))) ∷ []))
+        (facts.tells new ≡ facts.tells old)
+        × (IsTrue (facts.tells old) → (newest : Option FileName) × IsNewestLog (now (facts.past old))
+        image.removed_back newest
+        × (facts.past new ≡ reopen (image_of image newest (now (facts.past old))) ∷ []))
 
     abbrev pub Leaves : (D → D → Type 0) → (early since : List ClusterEvent) → Image → D → Type 0
     Leaves Left early since image last =
-        (old : D) × ((new : D) × BecameSo early old × Left old new × (tells last ≡ tells new)
-        × ((faults new + length (filter (is_failure_at k) since) ≤ faults last) ⊎ (2 ^ 64 - 1 ≤ faults last))
+        (old : D) × ((new : D) × BecameSo early old × Left old new × (facts.tells last ≡ facts.tells new)
+        × ((facts.faults new + length (filter (is_failure_at k) since) ≤ facts.faults last)
+        ⊎ (2 ^ 64 - 1 ≤ facts.faults last))
         × (let crashed = cluster_happens (cluster_after (new_cluster setup) early) (Crashes k image) in
-        IsTrue (tells new) → IsLinked setup crashed k (now (past new))
-        → Adds (IsPromisedSince setup crashed k since) (past new) (past last)
-        × IsLinked setup (cluster_after crashed since) k (now (past last))))
+        IsTrue (facts.tells new) → IsLinked setup crashed k (now (facts.past new))
+        → Adds (IsPromisedSince setup crashed k since) (facts.past new) (facts.past last)
+        × IsLinked setup (cluster_after crashed since) k (now (facts.past last))))
 
-    is-named : (image : Image) (old new : D) → IsImage tells past image old new → IsNamed image old new
+    is-named : (image : Image) (old new : D) → IsImage facts image old new → IsNamed image old new
     is-named image old new left = (
       left.told,
       λ tell. (
@@ -72,15 +74,13 @@ module _ {D : Type 0} (given : Giving D) (tells : D → Bool) (past : D → List
     )
 
     crash-leaves : (Left : D → D → Type 0) (early since : List ClusterEvent) (image : Image) (last : D)
-        → ((old new : D) → IsLeft given tells past image old new → Left old new) → HasNoCrash k since
+        → ((old new : D) → IsLeft given facts image old new → Left old new) → HasNoCrash k since
         → BecameSo (early ++ Crashes k image ∷ since) last → Leaves Left early since image last
     crash-leaves Left early since image last so calm b =
-        by (cut-there given tells past faults setup k (new_cluster setup) [] early since image b.first last calm
-        b.lives)
+        by (cut-there given facts setup k (new_cluster setup) [] early since image b.first last calm b.lives)
       where
-        by : (old : D) × ((new : D) × Lives given tells past faults setup k (new_cluster setup) [] early b.first old
-            × IsLeft given tells past image old new
-            × IsOneDisk tells past faults setup k (Crashed early image) since new last)
+        by : (old : D) × ((new : D) × Lives given facts setup k (new_cluster setup) [] early b.first old
+            × IsLeft given facts image old new × IsOneDisk facts setup k (Crashed early image) since new last)
             → Leaves Left early since image last
         by (old, (new, lives, left, one)) = (
           old,
@@ -91,9 +91,9 @@ module _ {D : Type 0} (given : Giving D) (tells : D → Bool) (past : D → List
             one.told,
             one.rose,
             λ tell linked. (
-              trace-moments IsLinked setup k (Crashed early image) since (past new) (past last) calm
+              trace-moments IsLinked setup k (Crashed early image) since (facts.past new) (facts.past last) calm
                   (one.traced tell linked),
-              trace-end IsLinked setup k (Crashed early image) since (past new) (past last) calm
+              trace-end IsLinked setup k (Crashed early image) since (facts.past new) (facts.past last) calm
                   (one.traced tell linked),
             ),
           ),
@@ -105,7 +105,7 @@ module _ {D : Type 0} (given : Giving D) (tells : D → Bool) (past : D → List
         → Leaves (IsNamed image) early since image last
     yard-leaves early since image last yard calm b = crash-leaves (IsNamed image) early since image last by calm b
       where
-        by : (old new : D) → IsLeft given tells past image old new → IsNamed image old new
+        by : (old new : D) → IsLeft given facts image old new → IsNamed image old new
         by old new (inl left) = is-named image old new left
         by old new (inr (hand, same)) = absurd (yard hand)
 
@@ -116,7 +116,7 @@ module _ {D : Type 0} (given : Giving D) (tells : D → Bool) (past : D → List
     hand-leaves early since image last calm b =
         crash-leaves (λ old new. IsNamed image old new ⊎ (new ≡ old)) early since image last by calm b
       where
-        by : (old new : D) → IsLeft given tells past image old new → IsNamed image old new ⊎ (new ≡ old)
+        by : (old new : D) → IsLeft given facts image old new → IsNamed image old new ⊎ (new ≡ old)
         by old new (inl left) = inl (is-named image old new left)
         by old new (inr (hand, same)) = inr same
 
@@ -124,12 +124,13 @@ module _ {D : Type 0} (given : Giving D) (tells : D → Bool) (past : D → List
 
     -- without a crash the given disk counts each
     pub counts-each : (events : List ClusterEvent) (last : D) → HasNoCrash k events → BecameSo events last
-        → (first : D) × IsGiven given tells past k first
-        × ((faults first + length (filter (is_failure_at k) events) ≤ faults last) ⊎ (2 ^ 64 - 1 ≤ faults last))
+        → (first : D) × IsGiven given facts k first
+        × ((facts.faults first + length (filter (is_failure_at k) events) ≤ facts.faults last)
+        ⊎ (2 ^ 64 - 1 ≤ facts.faults last))
     counts-each events last calm b = (
       b.first,
       b.given_is,
-      (one-disk given tells past faults setup k (new_cluster setup) [] events b.first last calm b.lives).rose,
+      (one-disk given facts setup k (new_cluster setup) [] events b.first last calm b.lives).rose,
     )
 
     abbrev pub HasCounted : List ClusterEvent → Type 0
@@ -137,21 +138,21 @@ module _ {D : Type 0} (given : Giving D) (tells : D → Bool) (past : D → List
         (behind : List ClusterEvent) × ((since : List ClusterEvent) × ((rest : List ClusterEvent)
         × (events ≡ behind ++ (since ++ rest)) × HasNoCrash k since × (fails_at k since ≡ true)
         × ((before : D) × ((after : D) × BecameSo behind before × BecameSo (behind ++ since) after
-        × (tells after ≡ tells before) × ((faults before < faults after) ⊎ (2 ^ 64 - 1 ≤ faults after))))))
+        × (facts.tells after ≡ facts.tells before) × ((facts.faults before < facts.faults after)
+        ⊎ (2 ^ 64 - 1 ≤ facts.faults after))))))
 
     pub failure-counted : (events : List ClusterEvent) (last : D) → In (Fails k) events → BecameSo events last
         → HasCounted events
     failure-counted events last there b =
-        failure-found given tells past faults setup k (new_cluster setup) b.first events (HasCounted events) found
+        failure-found given facts setup k (new_cluster setup) b.first events (HasCounted events) found
         (new_cluster setup)
-        [] [] events b.first last refl (one-none tells past faults setup k (new_cluster setup) b.first) tt refl
+        [] [] events b.first last refl (one-none facts setup k (new_cluster setup) b.first) tt refl
         (list_any-from_in (is_failure_at k) (Fails k) events there (eq-eqb k k refl)) b.lives
       where
         found : (behind since rest : List ClusterEvent) (before after : D) → events ≡ behind ++ (since ++ rest)
             → HasNoCrash k since → fails_at k since ≡ true
-            → Lives given tells past faults setup k (new_cluster setup) [] behind b.first before
-            → IsOneDisk tells past faults setup k (cluster_after (new_cluster setup) behind) since before after
-            → HasCounted events
+            → Lives given facts setup k (new_cluster setup) [] behind b.first before
+            → IsOneDisk facts setup k (cluster_after (new_cluster setup) behind) since before after → HasCounted events
         found behind since rest before after is calm any lives one = (
           behind,
           (
@@ -167,14 +168,13 @@ module _ {D : Type 0} (given : Giving D) (tells : D → Bool) (past : D → List
                   after,
                   became-front events behind (since ++ rest) last before is b lives,
                   became-front events (behind ++ since) rest last after (is ∙ sym (append_assoc behind since rest)) b
-                      (lives-then given tells past faults setup k (cluster_after (new_cluster setup) behind)
+                      (lives-then given facts setup k (cluster_after (new_cluster setup) behind)
                       (new_cluster setup) [] behind
                       since b.first before after refl lives
-                      (goes-on given tells past faults setup k (cluster_after (new_cluster setup) behind) since before
-                      after calm
+                      (goes-on given facts setup k (cluster_after (new_cluster setup) behind) since before after calm
                       one)),
                   one.told,
-                  rose-some k since (faults before) (faults after) any one.rose,
+                  rose-some k since (facts.faults before) (facts.faults after) any one.rose,
                 ),
               ),
             ),
@@ -216,19 +216,20 @@ module _ {D : Type 0} (given : Giving D) (tells : D → Bool) (past : D → List
 
     pub stopped-counted : (events : List ClusterEvent) (last : D)
         → In (Stopped k) (all_prints setup (new_cluster setup) events) → BecameSo events last
-        → (before : D) × ((after : D) × (tells after ≡ tells before)
-        × ((faults before < faults after) ⊎ (2 ^ 64 - 1 ≤ faults after)))
+        → (before : D) × ((after : D) × (facts.tells after ≡ facts.tells before)
+        × ((facts.faults before < facts.faults after) ⊎ (2 ^ 64 - 1 ≤ facts.faults after)))
     stopped-counted events last there b =
         by (failure-counted events last (stopped-fails (new_cluster setup) events there) b)
       where
         by : HasCounted events
-            → (before : D) × ((after : D) × (tells after ≡ tells before)
-            × ((faults before < faults after) ⊎ (2 ^ 64 - 1 ≤ faults after)))
+            → (before : D) × ((after : D) × (facts.tells after ≡ facts.tells before)
+            × ((facts.faults before < facts.faults after) ⊎ (2 ^ 64 - 1 ≤ facts.faults after)))
         by (behind, (since, (rest, is, calm, any, (before, (after, first, last', told, rose))))) =
             (before, (after, told, rose))
 
-    pub never-fails : (events : List ClusterEvent) (last : D) → ((before after : D) → faults before < faults after → ⊥)
-        → ((disk : D) → 2 ^ 64 - 1 ≤ faults disk → ⊥) → BecameSo events last → In (Fails k) events → ⊥
+    pub never-fails : (events : List ClusterEvent) (last : D)
+        → ((before after : D) → facts.faults before < facts.faults after → ⊥)
+        → ((disk : D) → 2 ^ 64 - 1 ≤ facts.faults disk → ⊥) → BecameSo events last → In (Fails k) events → ⊥
     never-fails events last still short b there = by (failure-counted events last there b)
       where
         by : HasCounted events → ⊥

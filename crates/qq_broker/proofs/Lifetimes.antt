@@ -6,7 +6,7 @@ use Rattle.std.proofs.lemmas.Bool.Decides.{eqb_tells}
 use Rattle.std.proofs.lemmas.List.Folds.{list_any-append}
 use Rattle.qq_base.proofs.Lists.{AllByRecursion-append}
 use Rattle.qq_disk.specs.declared.image.Image.{Image}
-use Rattle.qq_disk.specs.Disk.{Disk}
+use Rattle.qq_disk.specs.Facts.{DiskFacts}
 use Rattle.qq_cluster.specs.Cluster.{Cluster, ClusterEvent, Crashes, Setup, cluster_after, cluster_happens}
 use Rattle.qq_cluster_laws.specs.Restarts.{first_restart}
 use Rattle.qq_cluster_laws.specs.Serves.{fails_at, is_failure_at}
@@ -59,48 +59,47 @@ rose-some k events before after any (inl rose) =
     inl (let some = failures-some k events any in omega (arith, some, rose))
 rose-some k events before after any (inr end) = inr end
 
-module _ {D : Type 0} (given : Giving D) (tells : D → Bool) (past : D → List Disk) (faults : D → ℕ) (setup : Setup)
-    (k : ℕ) where
+module _ {D : Type 0} (given : Giving D) (facts : DiskFacts D) (setup : Setup) (k : ℕ) where
   -- what a crash leaves shows its contents as the old disk does
-  pub left-told : (image : Image) (old new : D) → IsLeft given tells past image old new → tells new ≡ tells old
+  pub left-told : (image : Image) (old new : D) → IsLeft given facts image old new → facts.tells new ≡ facts.tells old
   left-told image old new (inl left) = left.told
-  left-told image old new (inr (hand, same)) = ap tells same
+  left-told image old new (inr (hand, same)) = ap facts.tells same
 
   -- with which logs a node begins, by fewer of the events
   pub begins-front : (disk : D) (early late : List ClusterEvent)
-      → BeginsBy tells past setup k disk (first_restart k (early ++ late))
-      → BeginsBy tells past setup k disk (first_restart k early)
+      → BeginsBy facts setup k disk (first_restart k (early ++ late))
+      → BeginsBy facts setup k disk (first_restart k early)
   begins-front disk early late so = by (first_restart k early) refl
     where
-      by : (o : Option Bool) → first_restart k early ≡ o → BeginsBy tells past setup k disk o
+      by : (o : Option Bool) → first_restart k early ≡ o → BeginsBy facts setup k disk o
       by None is = tt
-      by (Some up) is = subst (BeginsBy tells past setup k disk) (first-stays k early late up is) so
+      by (Some up) is = subst (BeginsBy facts setup k disk) (first-stays k early late up is) so
 
   abbrev One : Cluster → List ClusterEvent → D → D → Type 0
-  One c events first last = IsOneDisk tells past faults setup k c events first last
+  One c events first last = IsOneDisk facts setup k c events first last
 
   abbrev Live : Cluster → List ClusterEvent → List ClusterEvent → D → D → Type 0
-  Live c since events first last = Lives given tells past faults setup k c since events first last
+  Live c since events first last = Lives given facts setup k c since events first last
 
   -- at an event that names this image, or none
   abbrev AtEvent : Option Image → Cluster → List ClusterEvent → ClusterEvent → List ClusterEvent → D → D → Type 0
   AtEvent o c since event events first last =
-      at_crash o (λ old. One c since first old) (IsLeft given tells past)
+      at_crash o (λ old. One c since first old) (IsLeft given facts)
       (λ new. Live (cluster_happens (cluster_after c since) event) [] events new last)
       (Live c (since ++ event ∷ []) events first last)
 
   -- each disk shows its contents as the first does
   pub lives-told : (c : Cluster) (since events : List ClusterEvent) (first last : D) → Live c since events first last
-      → tells last ≡ tells first
+      → facts.tells last ≡ facts.tells first
   lives-told c since [] first last so = so.told
   lives-told c since (event ∷ events) first last so =
       by (crash_of k event) (λ same. lives-told c (since ++ event ∷ []) events first last same)
       (λ new goes. lives-told (cluster_happens (cluster_after c since) event) [] events new last goes) so
     where
-      by : (o : Option Image) → (Live c (since ++ event ∷ []) events first last → tells last ≡ tells first)
+      by : (o : Option Image) → (Live c (since ++ event ∷ []) events first last → facts.tells last ≡ facts.tells first)
           → ((new : D) → Live (cluster_happens (cluster_after c since) event) [] events new last
-          → tells last ≡ tells new)
-          → AtEvent o c since event events first last → tells last ≡ tells first
+          → facts.tells last ≡ facts.tells new)
+          → AtEvent o c since event events first last → facts.tells last ≡ facts.tells first
       by None further next same = further same
       by (Some image) further next (old, (new, ends, left, goes)) =
           next new goes ∙ left-told image old new left ∙ ends.told
@@ -119,7 +118,7 @@ module _ {D : Type 0} (given : Giving D) (tells : D → Bool) (past : D → List
 
   abbrev pub IsCut : Cluster → Cluster → (since early later : List ClusterEvent) → Image → D → D → Type 0
   IsCut c crashed since early later image first last =
-      (old : D) × ((new : D) × Live c since early first old × IsLeft given tells past image old new
+      (old : D) × ((new : D) × Live c since early first old × IsLeft given facts image old new
       × One crashed later new last)
 
   abbrev Next : Cluster → List ClusterEvent → ClusterEvent → Cluster
@@ -131,7 +130,7 @@ module _ {D : Type 0} (given : Giving D) (tells : D → Bool) (past : D → List
   abbrev CutAt : Option Image → Cluster → (since : List ClusterEvent) → ClusterEvent
       → (early later : List ClusterEvent) → Image → D → D → Type 0
   CutAt o c since event early later image first last =
-      (old : D) × ((new : D) × AtEvent o c since event early first old × IsLeft given tells past image old new
+      (old : D) × ((new : D) × AtEvent o c since event early first old × IsLeft given facts image old new
       × One (Crashed (Next c since event) early image) later new last)
 
   pub cut-there : (c : Cluster) (since early later : List ClusterEvent) (image : Image) (first last : D)
@@ -149,7 +148,7 @@ module _ {D : Type 0} (given : Giving D) (tells : D → Bool) (past : D → List
         (
           new,
           ends,
-          subst (λ (i : Image). IsLeft given tells past i old new) (let same : named ≡ image = cc in same) left,
+          subst (λ (i : Image). IsLeft given facts i old new) (let same : named ≡ image = cc in same) left,
           one-disk (cluster_happens (cluster_after c since) (Crashes k image)) [] later new last calm goes,
         ),
       )
@@ -160,7 +159,7 @@ module _ {D : Type 0} (given : Giving D) (tells : D → Bool) (past : D → List
       (cut-there c (since ++ event ∷ []) early later image first last calm same))
       (λ new goes. cut-there (cluster_happens (cluster_after c since) event) [] early later image new last calm goes) so
     where
-      again : (named : Image) (mid begun : D) → One c since first mid → IsLeft given tells past named mid begun
+      again : (named : Image) (mid begun : D) → One c since first mid → IsLeft given facts named mid begun
           → IsCut (Next c since event) (Crashed (Next c since event) early image) [] early later image begun last
           → CutAt (Some named) c since event early later image first last
       again named mid begun ends left (old, (new, live, image_left, one)) =
@@ -187,16 +186,16 @@ module _ {D : Type 0} (given : Giving D) (tells : D → Bool) (past : D → List
     -- the disk that is left of a crash has become of the given one
     lives-crashed : (c : Cluster) (behind since : List ClusterEvent) (event : ClusterEvent) (image : Image)
         (first old new : D) → cluster_after c0 behind ≡ c → HasNoCrash k since → crash_of k event ≡ Some image
-        → Live c0 [] behind origin first → One c since first old → IsLeft given tells past image old new
+        → Live c0 [] behind origin first → One c since first old → IsLeft given facts image old new
         → Live c0 [] ((behind ++ since) ++ event ∷ []) origin new
     lives-crashed c behind since event image first old new at calm is live ends left =
         subst (λ (e : ClusterEvent). Live c0 [] ((behind ++ since) ++ e ∷ []) origin new)
         (sym (crash-is k event image is))
-        (lives-then given tells past faults setup k (cluster_after c0 (behind ++ since)) c0 [] (behind ++ since)
+        (lives-then given facts setup k (cluster_after c0 (behind ++ since)) c0 [] (behind ++ since)
         (Crashes k image ∷ []) origin old new refl
-        (lives-then given tells past faults setup k c c0 [] behind since origin first old at live
-        (goes-on given tells past faults setup k c since first old calm ends))
-        (goes-crashed given tells past faults setup k (cluster_after c0 (behind ++ since)) image old new left))
+        (lives-then given facts setup k c c0 [] behind since origin first old at live
+        (goes-on given facts setup k c since first old calm ends))
+        (goes-crashed given facts setup k (cluster_after c0 (behind ++ since)) image old new left))
 
     -- a failure that isn't before a crash is after it
     later-fails : (since events : List ClusterEvent) (event : ClusterEvent) (image : Image)

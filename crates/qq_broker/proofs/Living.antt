@@ -4,7 +4,8 @@ use Rattle.std.specs.Prelude.{IsTrue, is_some}
 use Rattle.std.proofs.lemmas.Bool.{eq-eqb, ne_eqb}
 use Rattle.qq_base.specs.Causes.{Rose}
 use Rattle.qq_disk.specs.declared.image.Image.{Image}
-use Rattle.qq_disk.specs.Disk.{Disk, now}
+use Rattle.qq_disk.specs.Disk.{now}
+use Rattle.qq_disk.specs.Facts.{DiskFacts}
 use Rattle.qq_disk.proofs.Moments.{adds-none}
 use Rattle.qq_cluster.specs.Cluster.{Cluster, ClusterEvent, Sets, Alike, At, NodeWrites, NodeSyncs, Fails, Crashes, FindsEach, Shows, SaysDown, SaysNoSuch, SaysUnroutable, SaysBusy, SaysEnded, Setup, cluster_after, cluster_happens}
 use Rattle.qq_cluster_laws.specs.Linked.{IsLinked, IsPromised}
@@ -72,32 +73,34 @@ pub not-first : {A : Type 0} (k : ℕ) (events : List ClusterEvent) → is_some 
     → first_restart k events ≡ None → A
 not-first k events some none = absurd (let e : false ≡ true = ap is_some (sym none) ∙ some in cc)
 
-module _ {D : Type 0} (tells : D → Bool) (past : D → List Disk) (faults : D → ℕ) (setup : Setup) (k : ℕ) where
+module _ {D : Type 0} (facts : DiskFacts D) (setup : Setup) (k : ℕ) where
   -- the logs that a node has begun with
   pub begins-stay : (disk : D) (events more : List ClusterEvent) → is_some (first_restart k events) ≡ true
-      → BeginsBy tells past setup k disk (first_restart k events)
-      → BeginsBy tells past setup k disk (first_restart k (events ++ more))
+      → BeginsBy facts setup k disk (first_restart k events)
+      → BeginsBy facts setup k disk (first_restart k (events ++ more))
   begins-stay disk events more some begins = by (first_restart k events) refl some begins
     where
-      by : (o : Option Bool) → first_restart k events ≡ o → is_some o ≡ true → BeginsBy tells past setup k disk o
-          → BeginsBy tells past setup k disk (first_restart k (events ++ more))
+      by : (o : Option Bool) → first_restart k events ≡ o → is_some o ≡ true → BeginsBy facts setup k disk o
+          → BeginsBy facts setup k disk (first_restart k (events ++ more))
       by None is none so = absurd cc
-      by (Some up) is some' so = subst (BeginsBy tells past setup k disk) (sym (first-stays k events more up is)) so
+      by (Some up) is some' so = subst (BeginsBy facts setup k disk) (sym (first-stays k events more up is)) so
 
   abbrev One : Cluster → List ClusterEvent → D → D → Type 0
-  One c events first last = IsOneDisk tells past faults setup k c events first last
+  One c events first last = IsOneDisk facts setup k c events first last
 
   one-both : (cx c : Cluster) (since more : List ClusterEvent) (first mid last : D) → cluster_after c since ≡ cx
       → One c since first mid → One cx more mid last → One c (since ++ more) first last
   one-both cx c since more first mid last at a b = record {
     told = b.told ∙ a.told;
-    rose = subst (λ (n : ℕ). RoseBy n (faults first) (faults last)) (sym (failures-both k since more))
-        (rose-both (faults first) (faults mid) (faults last) (failures k since) (failures k more) a.rose b.rose);
+    rose = subst (λ (n : ℕ). RoseBy n (facts.faults first) (facts.faults last)) (sym (failures-both k since more))
+        (rose-both (facts.faults first) (facts.faults mid) (facts.faults last) (failures k since)
+        (failures k more) a.rose b.rose);
     traced = λ tell linked.
-        traces-then IsLinked setup k c since more (past first) (past mid) (past last) (a.traced tell linked)
-        (λ later. subst (λ (d : Cluster). IsTracedAt setup d k more (past mid) (past last)) (sym at)
+        traces-then IsLinked setup k c since more (facts.past first) (facts.past mid) (facts.past last)
+        (a.traced tell linked)
+        (λ later. subst (λ (d : Cluster). IsTracedAt setup d k more (facts.past mid) (facts.past last)) (sym at)
         (b.traced (subst IsTrue (sym a.told) tell)
-        (subst (λ (d : Cluster). IsLinked setup d k (now (past mid))) at later)));
+        (subst (λ (d : Cluster). IsLinked setup d k (now (facts.past mid))) at later)));
   }
 
   -- nothing happened yet
@@ -105,21 +108,20 @@ module _ {D : Type 0} (tells : D → Bool) (past : D → List Disk) (faults : D 
   one-none c d = record {
     told = refl;
     rose = inl (omega arith);
-    traced = λ tell linked. (linked.promised, adds-none (IsPromised setup c k) (past d), linked);
+    traced = λ tell linked. (linked.promised, adds-none (IsPromised setup c k) (facts.past d), linked);
   }
 
-module _ {D : Type 0} (given : Giving D) (tells : D → Bool) (past : D → List Disk) (faults : D → ℕ) (setup : Setup)
-    (k : ℕ) where
+module _ {D : Type 0} (given : Giving D) (facts : DiskFacts D) (setup : Setup) (k : ℕ) where
   abbrev One' : Cluster → List ClusterEvent → D → D → Type 0
-  One' c events first last = IsOneDisk tells past faults setup k c events first last
+  One' c events first last = IsOneDisk facts setup k c events first last
 
   abbrev Live : Cluster → List ClusterEvent → List ClusterEvent → D → D → Type 0
-  Live c since events first last = Lives given tells past faults setup k c since events first last
+  Live c since events first last = Lives given facts setup k c since events first last
 
   stays : (o : Option Image) (Ends : D → Type 0) (GoesOn : D → Type 0) (Stays : Type 0) → o ≡ None → Stays
-      → at_crash o Ends (IsLeft given tells past) GoesOn Stays
+      → at_crash o Ends (IsLeft given facts) GoesOn Stays
   stays o Ends GoesOn Stays none so =
-      subst (λ (p : Option Image). at_crash p Ends (IsLeft given tells past) GoesOn Stays) (sym none) so
+      subst (λ (p : Option Image). at_crash p Ends (IsLeft given facts) GoesOn Stays) (sym none) so
 
   -- without a crash of the node it is one disk
   one-lives : (c : Cluster) (since events : List ClusterEvent) (first last : D) → HasNoCrash k events
@@ -151,10 +153,10 @@ module _ {D : Type 0} (given : Giving D) (tells : D → Bool) (past : D → List
           → (Live c (since ++ event ∷ []) events first mid → Live c (since ++ event ∷ []) (events ++ more) first last)
           → ((new : D) → Live (cluster_happens (cluster_after c since) event) [] events new mid
           → Live (cluster_happens (cluster_after c since) event) [] (events ++ more) new last)
-          → at_crash o (λ old. One' c since first old) (IsLeft given tells past)
+          → at_crash o (λ old. One' c since first old) (IsLeft given facts)
           (λ new. Live (cluster_happens (cluster_after c since) event) [] events new mid)
           (Live c (since ++ event ∷ []) events first mid)
-          → at_crash o (λ old. One' c since first old) (IsLeft given tells past)
+          → at_crash o (λ old. One' c since first old) (IsLeft given facts)
           (λ new. Live (cluster_happens (cluster_after c since) event) [] (events ++ more) new last)
           (Live c (since ++ event ∷ []) (events ++ more) first last)
       by None further next so = further so
@@ -165,21 +167,21 @@ module _ {D : Type 0} (given : Giving D) (tells : D → Bool) (past : D → List
       → GoesOn cx more mid last
   goes-on cx more mid last calm so = λ c since first at one.
       one-lives c since more first last calm
-      (one-both tells past faults setup k cx c since more first mid last at one so)
+      (one-both facts setup k cx c since more first mid last at one so)
 
   -- a crash of the node
-  pub goes-crashed : (cx : Cluster) (image : Image) (mid last : D) → IsLeft given tells past image mid last
+  pub goes-crashed : (cx : Cluster) (image : Image) (mid last : D) → IsLeft given facts image mid last
       → GoesOn cx (Crashes k image ∷ []) mid last
   goes-crashed cx image mid last left = λ c since first at one.
       crashed (crash_of k (Crashes k image)) (rw (eq-eqb k k refl) refl) c since first one
     where
       crashed : (o : Option Image) → o ≡ Some image → (c : Cluster) (since : List ClusterEvent) (first : D)
           → One' c since first mid
-          → at_crash o (λ old. One' c since first old) (IsLeft given tells past)
+          → at_crash o (λ old. One' c since first old) (IsLeft given facts)
           (λ new. Live (cluster_happens (cluster_after c since) (Crashes k image)) [] [] new last)
           (Live c (since ++ Crashes k image ∷ []) [] first last)
       crashed o is c since first one =
-          subst (λ (p : Option Image). at_crash p (λ old. One' c since first old) (IsLeft given tells past)
+          subst (λ (p : Option Image). at_crash p (λ old. One' c since first old) (IsLeft given facts)
           (λ new. Live (cluster_happens (cluster_after c since) (Crashes k image)) [] [] new last)
           (Live c (since ++ Crashes k image ∷ []) [] first last)) (sym is) (
             mid,
@@ -187,6 +189,6 @@ module _ {D : Type 0} (given : Giving D) (tells : D → Bool) (past : D → List
               last,
               one,
               left,
-              one-none tells past faults setup k (cluster_happens (cluster_after c since) (Crashes k image)) last,
+              one-none facts setup k (cluster_happens (cluster_after c since) (Crashes k image)) last,
             ),
           )

@@ -7,6 +7,7 @@ use Rattle.qq_base.specs.Fronts.{IsFront}
 use Rattle.qq_base.specs.declared.ids.QueueId.{QueueId}
 use Rattle.qq_defs.specs.Runnable.{IsRunnable}
 use Rattle.qq_disk.specs.Disk.{Disk, now}
+use Rattle.qq_disk.specs.Facts.{DiskFacts}
 use Rattle.qq_log.specs.declared.op.Op.{Op}
 use Rattle.qq_log.specs.Stable.{Stable, new_state}
 use Rattle.qq_lots.specs.Lots.{ids_of}
@@ -56,41 +57,41 @@ module _ (readable : (queues : List QueueId) (noticed given : List Op) (d : Disk
       ∙ subst (λ (ops : List Op). IsStateOf ops (so.recovers.lanes id)) (front-none lane.ops lane.front) lane.is
 
   -- a node that was restarted has no ops in a log over a new disk
-  pub no-log : {D : Type 0} (tells : D → Bool) (past : D → List Disk) (setup : ClusterSetup) (k place : ℕ) (disk : D)
-      → IsTrue (tells disk) → IsNew (past disk) → In place (lot_of setup k).places → (restarted : Option Bool)
-      → is_some restarted ≡ true → BeginsBy tells past setup k disk restarted → log_at setup k place ≡ []
-  no-log tells past setup k place disk tell new on None some begins = absurd cc
-  no-log tells past setup k place disk tell new on (Some true) some begins =
+  pub no-log : {D : Type 0} (facts : DiskFacts D) (setup : ClusterSetup) (k place : ℕ) (disk : D)
+      → IsTrue (facts.tells disk) → IsNew (facts.past disk) → In place (lot_of setup k).places
+      → (restarted : Option Bool)
+      → is_some restarted ≡ true → BeginsBy facts setup k disk restarted → log_at setup k place ≡ []
+  no-log facts setup k place disk tell new on None some begins = absurd cc
+  no-log facts setup k place disk tell new on (Some true) some begins =
       let hold = begins tell in
       let id : QueueId = (setup.args place).queue in
       let lane : hold.lanes id.0 ≡ None =
-      nothing-read (ids_of (lot_of setup k)) (past disk) hold.lanes new hold.read id.0 in
+      nothing-read (ids_of (lot_of setup k)) (facts.past disk) hold.lanes new hold.read id.0 in
       no-ops (log_at setup k place)
       (hold.each place on
       ∙ ap (λ (o : Option Stable). Some (record (unwrap_or o new_state) { snapshot = 0 })) lane)
-  no-log tells past setup k place disk tell new on (Some false) some begins = begins place on
+  no-log facts setup k place disk tell new on (Some false) some begins = begins place on
 
   -- ---- the logs
 
-  module _ {D : Type 0} (is_given : Option (List ℕ) → ℕ → D → Bool) (tells : D → Bool) (past : D → List Disk)
-      (faults : D → ℕ) (first : Takers) (s : Setup) (all left : List Input)
-      (b : Behind (RunHad (under is_given None) tells past faults first) s all left)
-      (runs : IsRunnable (state_of s)) (shows : (disk : D) → IsTrue (tells disk)) where
+  module _ {D : Type 0} (is_given : Option (List ℕ) → ℕ → D → Bool) (facts : DiskFacts D) (first : Takers) (s : Setup)
+      (all left : List Input) (b : Behind (RunHad (under is_given None) facts first) s all left)
+      (runs : IsRunnable (state_of s)) (shows : (disk : D) → IsTrue (facts.tells disk)) where
     abbrev given : Giving D
     given = under is_given None
 
     abbrev S : ClusterSetup
     S = setup_behind b
 
-    new-disk : (k : ℕ) (disk : D) → IsGiven given tells past k disk → IsNew (past disk)
+    new-disk : (k : ℕ) (disk : D) → IsGiven given facts k disk → IsNew (facts.past disk)
     new-disk k disk is = is.new (shows disk)
 
     -- what a member's log holds
     own-new : (k place : ℕ) → In k S.nodes → In place (lot_of S k).places → b.logs place k ≡ []
     own-new k place there on =
-        let became : (last : D) × Became given tells past faults S b.events k last = b.disks.0 k there in
+        let became : (last : D) × Became given facts S b.events k last = b.disks.0 k there in
         let given_disk : D = became.1.first in
-        no-log tells past S k place given_disk (shows given_disk) (new-disk k given_disk became.1.given_is) on
+        no-log facts S k place given_disk (shows given_disk) (new-disk k given_disk became.1.given_is) on
         (first_restart k b.events)
         (restarted s all left b k there) became.1.begins
 

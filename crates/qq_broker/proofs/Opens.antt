@@ -8,6 +8,7 @@ use Rattle.qq_base.specs.Causes.{Rose}
 use Rattle.qq_base.specs.declared.ids.NodeId.{NodeId}
 use Rattle.qq_base.specs.declared.ids.QueueId.{QueueId}
 use Rattle.qq_disk.specs.Disk.{Disk, now}
+use Rattle.qq_disk.specs.Facts.{DiskFacts}
 use Rattle.qq_entry.specs.declared.queue.QueueArgs.{QueueArgs}
 use Rattle.qq_log.specs.declared.op.Op.{Op}
 use Rattle.qq_log.specs.Stable.{new_state, stable}
@@ -45,12 +46,12 @@ use Rattle.qq_broker.proofs.Failing.{opening-once}
 use Rattle.qq_broker.proofs.GoingOn.{disk-there, had-so, in-range, served-disk}
 use Rattle.qq_broker.proofs.Living.{goes-on, one-none}
 
-pub yard-closes : {D : Type 0} (given : Giving D) (tells : D → Bool) (past : D → List Disk) (faults : D → ℕ)
-    (before after : ℕ) (s : Setup) (ending : Ending) → IsYardEnding before after ending
-    → MayNotOpen (Meets given tells past faults before after) s ending
-yard-closes given tells past faults before after s ending (inl failed) =
+pub yard-closes : {D : Type 0} (given : Giving D) (facts : DiskFacts D) (before after : ℕ) (s : Setup) (ending : Ending)
+    → IsYardEnding before after ending
+    → MayNotOpen (Meets given facts before after) s ending
+yard-closes given facts before after s ending (inl failed) =
     inr (new_logs, inr (inl (inl failed.0, failed.1)))
-yard-closes given tells past faults before after s ending (inr want) = inr (new_logs, inl want)
+yard-closes given facts before after s ending (inr want) = inr (new_logs, inl want)
 
 some-there : (n : ℕ) → 0 < n → range_with_len 1 n ≡ [] → ⊥
 some-there zero some is = absurd (omega (arith, some))
@@ -102,11 +103,11 @@ row-on setup rows count logs with' k place there =
         }
     by has same less (inr (past_end, none)) = absurd (omega (arith, less, past_end))
 
-module _ {D : Type 0} (given : Giving D) (tells : D → Bool) (past : D → List Disk) (faults : D → ℕ) (s : Setup)
-    (may : MayRun s) (begins : HasGroups (cluster_setup s)) (old : Nodes D)
-    (u : AreUnopened given tells past faults s old) where
+module _ {D : Type 0} (given : Giving D) (facts : DiskFacts D) (s : Setup) (may : MayRun s)
+    (begins : HasGroups (cluster_setup s)) (old : Nodes D)
+    (u : AreUnopened given facts s old) where
   abbrev pub See : Nodes D → ℕ → Seen
-  See held = seen tells past faults held
+  See held = seen facts held
 
   -- there is a node for each of the setup's
   pub count-is : length old.nodes.items ≡ s.nodes
@@ -119,11 +120,11 @@ module _ {D : Type 0} (given : Giving D) (tells : D → Bool) (past : D → List
 
   -- the disk that was given for a node
   pub own-disk : (k : ℕ) → In k (range_with_len 1 s.nodes)
-      → (disk : D) × IsDiskOf tells past faults old k disk × IsGiven given tells past k disk
+      → (disk : D) × IsDiskOf facts old k disk × IsGiven given facts k disk
   own-disk k there = u.disks k there
 
-  pub as-read : (P : List Disk → Type 0) (k : ℕ) (disk : D) → IsDiskOf tells past faults old k disk
-      → (IsTrue (See old k).tells → P (See old k).past) → IsTrue (tells disk) → P (past disk)
+  pub as-read : (P : List Disk → Type 0) (k : ℕ) (disk : D) → IsDiskOf facts old k disk
+      → (IsTrue (See old k).tells → P (See old k).past) → IsTrue (facts.tells disk) → P (facts.past disk)
   as-read P k disk is so tell =
       subst (λ (v : Seen). P v.past) is (so (subst IsTrue (sym (ap (λ (v : Seen). v.tells) is)) tell))
 
@@ -137,7 +138,7 @@ module _ {D : Type 0} (given : Giving D) (tells : D → Bool) (past : D → List
     ids-on k = ids-are S s.queues with'.places with'.each k
 
     module _ (nodes : List ℕ) (new : Nodes D) (lanes : ℕ → Option Lanes)
-        (each : (k : ℕ) → In k nodes → IsReadAs tells past faults s.queues old new k (lanes k))
+        (each : (k : ℕ) → In k nodes → IsReadAs facts s.queues old new k (lanes k))
         (are : AreReadLogs s.queues nodes lanes logs) where
       -- a queue's log on a node is what was read
       log-is : (k place : ℕ) → In k nodes → In place (lot_of S k).places
@@ -148,20 +149,21 @@ module _ {D : Type 0} (given : Giving D) (tells : D → Bool) (past : D → List
           (are k r.at r.row there r.here r.member
           ∙ ap (λ (a : QueueArgs). Some (state_read (lanes k) a.queue)) r.args_is)
 
-      pub begins-read : (k : ℕ) → In k nodes → (disk : D) → IsDiskOf tells past faults old k disk
+      pub begins-read : (k : ℕ) → In k nodes → (disk : D) → IsDiskOf facts old k disk
           → (restarted : Option Bool) → restarted ≡ Some (is_some (lanes k))
-          → BeginsBy tells past S k disk restarted
+          → BeginsBy facts S k disk restarted
       begins-read k there disk is restarted first =
-          subst (BeginsBy tells past S k disk) (sym first) (by (lanes k) (each k there) (λ place on. log-is k place there on))
+          subst (BeginsBy facts S k disk) (sym first)
+          (by (lanes k) (each k there) (λ place on. log-is k place there on))
         where
-          by : (read : Option Lanes) → IsReadAs tells past faults s.queues old new k read
+          by : (read : Option Lanes) → IsReadAs facts s.queues old new k read
               → ((place : ℕ) → In place (lot_of S k).places
               → stable (log_at S k place) ≡ Some (state_read read (S.args place).queue))
-              → BeginsBy tells past S k disk (Some (is_some read))
+              → BeginsBy facts S k disk (Some (is_some read))
           by None failed hold = λ place on. no-ops (log_at S k place) (hold place on)
           by (Some l) read hold = λ tell. record {
             lanes = l;
-            read = ap (λ (ids : List QueueId). lanes_read ids (shown (now (past disk)))) (sym (ids-on k))
+            read = ap (λ (ids : List QueueId). lanes_read ids (shown (now (facts.past disk)))) (sym (ids-on k))
                 ∙ as-read (λ (p : List Disk). lanes_read (ids_on s.queues k) (shown (now p)) ≡ Ok l) k disk is read tell;
             each = hold;
           }
@@ -170,23 +172,23 @@ module _ {D : Type 0} (given : Giving D) (tells : D → Bool) (past : D → List
     module _ (Allowed : List ClusterEvent → Type 0) (After : Cluster → Type 0) (new : Nodes D) (before later : Outcome)
         (sv : Serves S (new_cluster S) Allowed After (See old) (See new) before later)
         (few : (k : ℕ) → failures k sv.did.events ≤ 1) where
-      pub became-first : (k : ℕ) (there : In k S.nodes) (last : D) → IsDiskOf tells past faults new k last
-          → BeginsBy tells past S k (own-disk k there).0 (first_restart k sv.did.events)
-          → Became given tells past faults S sv.did.events k last
+      pub became-first : (k : ℕ) (there : In k S.nodes) (last : D) → IsDiskOf facts new k last
+          → BeginsBy facts S k (own-disk k there).0 (first_restart k sv.did.events)
+          → Became given facts S sv.did.events k last
       became-first k there last is begun =
           let own = own-disk k there in
           record {
             first = own.0;
             given_is = own.2;
             begins = begun;
-            lives = goes-on given tells past faults S k (new_cluster S) sv.did.events own.0 last (sv.no_crash k)
-                (served-disk given tells past faults S (new_cluster S) Allowed After old new before later sv k there (few k)
+            lives = goes-on given facts S k (new_cluster S) sv.did.events own.0 last (sv.no_crash k)
+                (served-disk given facts S (new_cluster S) Allowed After old new before later sv k there (few k)
                 own.0 last own.1 is)
-                (new_cluster S) [] own.0 refl (one-none tells past faults S k (new_cluster S) own.0);
+                (new_cluster S) [] own.0 refl (one-none facts S k (new_cluster S) own.0);
           }
 
   -- logs that the disks hold
-  pub held-with : (nodes : List ℕ) (new : Nodes D) → (hold : HoldLogs tells past faults s.queues nodes old new)
+  pub held-with : (nodes : List ℕ) (new : Nodes D) → (hold : HoldLogs facts s.queues nodes old new)
       → IsSetupWith (cluster_over s hold.logs) s.queues (length old.nodes.items) hold.logs
   held-with nodes new hold =
       is-with s may hold.logs begins (is-apart s may hold.logs hold.own) (length old.nodes.items) count-is
@@ -194,21 +196,21 @@ module _ {D : Type 0} (given : Giving D) (tells : D → Bool) (past : D → List
   -- ---- the nodes were opened
 
   module _ (new : Nodes D) (before later : Outcome) where
-    module _ (some : Bool) (so : OpensOver tells past faults s.queues some old new before later) where
+    module _ (some : Bool) (so : OpensOver facts s.queues some old new before later) where
       abbrev L : Logs
       L = so.hold.logs
 
       abbrev T : ClusterSetup
       T = cluster_over s L
 
-      to : OpensTo tells past faults T so.hold.read.lanes some old new before later
+      to : OpensTo facts T so.hold.read.lanes some old new before later
       to = so.opens T (held-with (all_of old) new so.hold)
 
       here : (k : ℕ) → In k T.nodes → In k (all_of old)
       here k there = subst (In k) (sym nodes-are) there
 
-    pub has-opened : (some : Bool) → some ≡ true → OpensOver tells past faults s.queues some old new before later
-        → HasOpened (Had given tells past faults) s (Holds given tells past faults s new) before later
+    pub has-opened : (some : Bool) → some ≡ true → OpensOver facts s.queues some old new before later
+        → HasOpened (Had given facts) s (Holds given facts s new) before later
     has-opened false is so = absurd cc
     has-opened true is so =
         let logs : Logs = so.hold.logs in
@@ -216,17 +218,17 @@ module _ {D : Type 0} (given : Giving D) (tells : D → Bool) (past : D → List
         let opens = to true so in
         let sv = opens.serves in
         let with' = held-with (all_of old) new so.hold in
-        let holds : Holds given tells past faults s new (record { lines = 0; logs = logs; events = sv.did.events }) =
+        let holds : Holds given facts s new (record { lines = 0; logs = logs; events = sv.did.events }) =
         record {
           stands = sv.did.stands;
           restarted = λ k there. ap is_some (opens.came k (here true so k there));
           disks = λ k there.
-              (let last = disk-there given tells past faults setup new (cluster_after (new_cluster setup) sv.did.events)
+              (let last = disk-there given facts setup new (cluster_after (new_cluster setup) sv.did.events)
               sv.did.stands k there in
               let own = own-disk k there in (
                 last.0,
                 last.1,
-                became-first logs with' (IsOpenedTo true setup (new_cluster setup)) (Stands tells past setup new) new before
+                became-first logs with' (IsOpenedTo true setup (new_cluster setup)) (Stands facts setup new) new before
                     later sv
                     (λ j. opening-once j setup s.nodes refl (new_cluster setup) sv.did.events sv.did.means.0) k there last.0
                     last.1
@@ -243,7 +245,7 @@ module _ {D : Type 0} (given : Giving D) (tells : D → Bool) (past : D → List
           events = sv.did.events;
           allowed = sv.did.means.0;
           opened = sv.did.means.1;
-          disks = had-so given tells past faults s new (record { lines = 0; logs = logs; events = sv.did.events }) holds;
+          disks = had-so given facts s new (record { lines = 0; logs = logs; events = sv.did.events }) holds;
           stands = holds;
           says = sv.did.says;
           sees = sv.did.sees;
@@ -251,27 +253,26 @@ module _ {D : Type 0} (given : Giving D) (tells : D → Bool) (past : D → List
 
     -- ---- each disk has failed
 
-    failed-at : (so : OpensOver tells past faults s.queues false old new before later) → (k : ℕ) → In k (T false so).nodes
-        → HasFailed given tells past faults k
+    failed-at : (so : OpensOver facts s.queues false old new before later) → (k : ℕ) → In k (T false so).nodes
+        → HasFailed given facts k
     failed-at so k there =
         let setup : ClusterSetup = cluster_over s so.hold.logs in
         let sv = (to false so).serves in
         let own = own-disk k there in
-        let last = disk-there given tells past faults setup new (cluster_after (new_cluster setup) sv.did.events)
+        let last = disk-there given facts setup new (cluster_after (new_cluster setup) sv.did.events)
         sv.did.stands k there in
         record {
           first = own.0;
           given_is = own.2;
           last = last.0;
           told = sym (ap (λ (v : Seen). v.tells) last.1) ∙ sv.did.told k ∙ ap (λ (v : Seen). v.tells) own.1;
-          rose = subst (λ (n : ℕ). Rose n (faults last.0)) (ap (λ (v : Seen). v.faults) own.1)
+          rose = subst (λ (n : ℕ). Rose n (facts.faults last.0)) (ap (λ (v : Seen). v.faults) own.1)
               (subst (λ (n : ℕ). Rose (See old k).faults n) (ap (λ (v : Seen). v.faults) last.1)
               (sv.cause k (sv.did.means.1 k there refl)));
         }
 
     pub no-disk : (first last : ℕ) (some : Bool) → some ≡ false → 0 < s.nodes
-        → OpensOver tells past faults s.queues some old new before later
-        → MayNotOpen (Meets given tells past faults first last) s yard_fault
+        → OpensOver facts s.queues some old new before later → MayNotOpen (Meets given facts first last) s yard_fault
     no-disk first last true is many so = absurd cc
     no-disk first last false is many so =
         inr (
@@ -279,8 +280,7 @@ module _ {D : Type 0} (given : Giving D) (tells : D → Bool) (past : D → List
           inr (inl (
             inr (
               some-there s.nodes many,
-              AllByRecursion-from_in (HasFailed given tells past faults) (cluster_over s so.hold.logs).nodes
-                  (failed-at so),
+              AllByRecursion-from_in (HasFailed given facts) (cluster_over s so.hold.logs).nodes (failed-at so),
             ),
             refl,
           )),

@@ -1,5 +1,5 @@
 -- A node isn't restarted, and the run ends.
-use Rattle.std.proofs.Common.{◌≡◌, ◌≤◌, ◌⊎◌, ℕ, Bool, true, List, [], ◌∷◌, ◌++◌, Ok, Err, refl, sym, ap, subst, ◌∙◌, inl, inr, append-nil, length}
+use Rattle.std.proofs.Common.{◌≡◌, ◌≤◌, ◌⊎◌, ℕ, true, List, [], ◌∷◌, ◌++◌, Ok, Err, refl, sym, ap, subst, ◌∙◌, inl, inr, append-nil, length}
 use Rattle.std.specs.Prelude.{Contains, IsTrue, Some, is_some}
 use Rattle.std.specs.List.{range_with_len}
 use Rattle.qq_base.specs.declared.ids.NodeId.{NodeId}
@@ -7,6 +7,7 @@ use Rattle.qq_base.specs.declared.ids.QueueId.{QueueId}
 use Rattle.qq_base.specs.declared.memory.Memory.{Memory}
 use Rattle.qq_base.specs.declared.memory.Memory.TheVariants.{Spent, Want}
 use Rattle.qq_disk.specs.Disk.{Disk, now}
+use Rattle.qq_disk.specs.Facts.{DiskFacts}
 use Rattle.qq_model.proofs.Soundness.{in_contains}
 use Rattle.qq_lots.specs.Left.{state_in}
 use Rattle.qq_lots.specs.Lots.{ids_of}
@@ -58,13 +59,12 @@ record CountsUp (list : List ℕ) : Type 0 where
   count : ℕ
   is : list ≡ range_with_len first count
 
-module _ {D : Type 0} (given : Giving D) (tells : D → Bool) (past : D → List Disk) (faults : D → ℕ)
-    (before after : ℕ) (s : Setup) (run : Run)
-    (old : Nodes D) (h : Holds given tells past faults s old run) (list : List ℕ) (up : CountsUp list)
+module _ {D : Type 0} (given : Giving D) (facts : DiskFacts D) (before after : ℕ) (s : Setup) (run : Run)
+    (old : Nodes D) (h : Holds given facts s old run) (list : List ℕ) (up : CountsUp list)
     (there : (k : ℕ) → In k list → In k (setup_in s run).nodes) (said : Outcome) where
   -- the one that isn't restarted
   abbrev To : ℕ → Type 0
-  To node = RestartedTo tells past faults (setup_in s run) (cluster_in s run) list old said node
+  To node = RestartedTo facts (setup_in s run) (cluster_in s run) list old said node
 
   abbrev early_of : (node : ℕ) → To node → List ClusterEvent
   early_of node to = to.serves.did.events
@@ -98,20 +98,19 @@ module _ {D : Type 0} (given : Giving D) (tells : D → Bool) (past : D → List
   restarted-at node to = restarted-stays node run.events (early_of node to) (h.restarted node (here-at node to))
 
   disk-at : (node : ℕ) (to : To node)
-      → (last : D) × IsDiskOf tells past faults to.mid node last
-      × Became given tells past faults (setup_in s run) (run.events ++ early_of node to) node last
+      → (last : D) × IsDiskOf facts to.mid node last
+      × Became given facts (setup_in s run) (run.events ++ early_of node to) node last
   disk-at node to =
       let here : In node (setup_in s run).nodes =
       there node (subst (In node) (sym to.are) (in-list node to.first to.later)) in
       let was = h.disks node here in
-      let is = disk-there given tells past faults (setup_in s run) to.mid
-      (cluster_after (cluster_in s run) (early_of node to))
+      let is = disk-there given facts (setup_in s run) to.mid (cluster_after (cluster_in s run) (early_of node to))
       to.serves.did.stands node here in (
         is.0,
         is.1,
-        became-served given tells past faults (setup_in s run) run.events
+        became-served given facts (setup_in s run) run.events
             (ForEach to.first (IsRestart (setup_in s run)) (cluster_in s run))
-            (Stands tells past (setup_in s run) to.mid) old to.mid said to.said to.serves node here
+            (Stands facts (setup_in s run) to.mid) old to.mid said to.said to.serves node here
             (restarts-few node (setup_in s run) up.first up.count to.first (node ∷ to.later) (sym up.is ∙ to.are)
             (cluster_in s run)
             (early_of node to) to.serves.did.means) was.0 is.0 was.1 is.1 (h.restarted node here) was.2,
@@ -122,18 +121,17 @@ module _ {D : Type 0} (given : Giving D) (tells : D → Bool) (past : D → List
   reads node l = lanes_read (ids_of (lot_of (setup_in s run) node)) (shown (now l))
 
   as-read : (P : Answer Lanes → Type 0) (held : Nodes D) (node : ℕ) (last : D)
-      → IsDiskOf tells past faults held node last
-      → (IsTrue (seen tells past faults held node).tells → P (lanes_at tells past faults (setup_in s run) held node))
-      → IsTrue (tells last) → P (reads node (past last))
+      → IsDiskOf facts held node last
+      → (IsTrue (seen facts held node).tells → P (lanes_at facts (setup_in s run) held node))
+      → IsTrue (facts.tells last) → P (reads node (facts.past last))
   as-read P held node last is so tell =
       subst (λ (v : Seen). P (reads node v.past)) is (so (subst IsTrue (sym (ap (λ (v : Seen). v.tells) is)) tell))
 
   abbrev Damaged : Ending → Type 0
-  Damaged ending = EndsDamaged (Meets given tells past faults before after) (setup_in s run) list run.events ending
+  Damaged ending = EndsDamaged (Meets given facts before after) (setup_in s run) list run.events ending
 
   damaged-at : (node : ℕ) (to : To node) (fault : RecoverFault) (damage : Damage) → damage_of fault ≡ Some damage
-      → (IsTrue (seen tells past faults to.mid node).tells
-      → lanes_at tells past faults (setup_in s run) to.mid node ≡ Err fault)
+      → (IsTrue (seen facts to.mid node).tells → lanes_at facts (setup_in s run) to.mid node ≡ Err fault)
       → Damaged (damage_ending node damage)
   unfolding at-node
   damaged-at node to fault damage is read =
@@ -153,10 +151,9 @@ module _ {D : Type 0} (given : Giving D) (tells : D → Bool) (past : D → List
       }
 
   lost-at : (node : NodeId) (to : To node.0) (queue : QueueId) (noticed found : ℕ)
-      → IsLostAt tells past faults (setup_in s run) to.mid (cluster_after (cluster_in s run) (early_of node.0 to)) node
-      queue
+      → IsLostAt facts (setup_in s run) to.mid (cluster_after (cluster_in s run) (early_of node.0 to)) node queue
       noticed found
-      → EndsLost (Meets given tells past faults before after) (setup_in s run) list run.events
+      → EndsLost (Meets given facts before after) (setup_in s run) list run.events
       (lost node.0 (name_by (row_at s.queues queue.0)) noticed found)
   unfolding at-node
   lost-at node to queue noticed found so =
@@ -193,13 +190,12 @@ module _ {D : Type 0} (given : Giving D) (tells : D → Bool) (past : D → List
   -- why the run ends
   abbrev Refused : Ending → Type 0
   Refused ending =
-      Damaged ending ⊎ EndsLost (Meets given tells past faults before after) (setup_in s run) list run.events ending
+      Damaged ending ⊎ EndsLost (Meets given facts before after) (setup_in s run) list run.events ending
 
   refused-so : (P : AskStop → Type 0) (fault : RestartFault) (stop : AskStop)
       → ((ending : Ending) → Refused ending → P (Ended ending)) → P NoMemory
       → ((number : ℕ) → fault ≡ faults_of.Memory (Spent number) → P (Ended (spent number)))
-      → IsRefused tells past faults (setup_in s run) (cluster_in s run) list old said fault → IsStopOf s fault stop
-      → P stop
+      → IsRefused facts (setup_in s run) (cluster_in s run) list old said fault → IsStopOf s fault stop → P stop
   refused-so P (faults_of.Damaged node file place) stop ends want number_ends so is =
       subst P (sym is)
       (ends (damaged node.0 file.number place)
@@ -230,32 +226,27 @@ all-lines : (setup : ClusterSetup) (c : Cluster) (events : List ClusterEvent)
 unfolding IsLine
 all-lines setup c events so = so
 
-module _ {D : Type 0} (given : Giving D) (tells : D → Bool) (past : D → List Disk) (faults : D → ℕ) (s : Setup)
-    (run : Run) (old new : Nodes D)
-    (before later : Outcome) (h : Holds given tells past faults s old run) where
+module _ {D : Type 0} (given : Giving D) (facts : DiskFacts D) (s : Setup) (run : Run) (old new : Nodes D)
+    (before later : Outcome) (h : Holds given facts s old run) where
   pub restarted-one : (node : NodeId)
-      → Served tells past faults (λ (setup : ClusterSetup). IsRestart setup node.0) old new before later
-      → IsServed given tells past faults s run (Restart (One node)) new before later
+      → Served facts (λ (setup : ClusterSetup). IsRestart setup node.0) old new before later
+      → IsServed given facts s run (Restart (One node)) new before later
   restarted-one node so =
-      served given tells past faults s run (Restart (One node)) (λ (setup : ClusterSetup). IsRestart setup node.0) old
-      new before
+      served given facts s run (Restart (One node)) (λ (setup : ClusterSetup). IsRestart setup node.0) old new before
       later h (λ events is. one-line (setup_in s run) node (cluster_in s run) events is) so
 
-  pub restarted-all : Served tells past faults (λ (setup : ClusterSetup). ForEach setup.nodes (IsRestart setup)) old new
-      before later → IsServed given tells past faults s run (Restart All) new before later
+  pub restarted-all : Served facts (λ (setup : ClusterSetup). ForEach setup.nodes (IsRestart setup)) old new
+      before later → IsServed given facts s run (Restart All) new before later
   restarted-all so =
-      served given tells past faults s run (Restart All) (λ (setup : ClusterSetup). ForEach setup.nodes
-      (IsRestart setup)) old new
+      served given facts s run (Restart All) (λ (setup : ClusterSetup). ForEach setup.nodes (IsRestart setup)) old new
       before later h (λ events is. all-lines (setup_in s run) (cluster_in s run) events is) so
 
-module _ {D : Type 0} (given : Giving D) (tells : D → Bool) (past : D → List Disk) (faults : D → ℕ)
-    (before after : ℕ) (s : Setup) (run : Run)
-    (old new : Nodes D) (h : Holds given tells past faults s old run) (said : Outcome) (fault : RestartFault)
-    (stop : AskStop)
+module _ {D : Type 0} (given : Giving D) (facts : DiskFacts D) (before after : ℕ) (s : Setup) (run : Run)
+    (old new : Nodes D) (h : Holds given facts s old run) (said : Outcome) (fault : RestartFault) (stop : AskStop)
     (stops : IsStopOf s fault stop) (number : ℕ) where
   abbrev Cause : Which → AskStop → Type 0
   Cause which =
-      HasServeCause (Meets given tells past faults before after) (setup_in s run) run.events number (Restart which)
+      HasServeCause (Meets given facts before after) (setup_in s run) run.events number (Restart which)
 
   -- no node fails twice
   once : (which : Which) (k : ℕ) (events : List ClusterEvent)
@@ -264,55 +255,49 @@ module _ {D : Type 0} (given : Giving D) (tells : D → Bool) (past : D → List
       line-once k (setup_in s run) (length old.nodes.items) h.stands.set_up.nodes (Restart which) (cluster_in s run) events
 
   pub refused-one : (node : NodeId) → Contains (setup_in s run).nodes node.0
-      → Refuses tells past faults (this_node node.0) (λ (setup : ClusterSetup). IsRestart setup node.0) old new said
-      fault
+      → Refuses facts (this_node node.0) (λ (setup : ClusterSetup). IsRestart setup node.0) old new said fault
       → Cause (One node) stop
   refused-one node there so =
-      refused-so given tells past faults before after s run old h (node.0 ∷ [])
-      (record { first = node.0; count = 1; is = refl })
+      refused-so given facts before after s run old h (node.0 ∷ []) (record { first = node.0; count = 1; is = refl })
       (λ k here. only k here) said (Cause (One node)) fault stop (λ ending refused. inr refused) tt
-      (λ number is. inl (ends-spent given tells past faults s run (IsRestart (setup_in s run) node.0)
+      (λ number is. inl (ends-spent given facts s run (IsRestart (setup_in s run) node.0)
       (IsLine (setup_in s run) (Restart (One node))) old before after number h (one-line (setup_in s run) node)
       (once (One node))
-      (so.spent number is (setup_in s run) (cluster_in s run) (reached given tells past faults s run) h.stands)))
-      (so.refused (setup_in s run) (cluster_in s run) (reached given tells past faults s run) h.stands) stops
+      (so.spent number is (setup_in s run) (cluster_in s run) (reached given facts s run) h.stands)))
+      (so.refused (setup_in s run) (cluster_in s run) (reached given facts s run) h.stands) stops
     where
       only : (k : ℕ) → In k (node.0 ∷ []) → In k (setup_in s run).nodes
       only k (inl same) =
           in_contains (setup_in s run).nodes k (subst (Contains (setup_in s run).nodes) (sym same) there)
       only k (inr none) = absurd none
 
-  pub refused-all : Refuses tells past faults all_nodes (λ (setup : ClusterSetup). ForEach setup.nodes
-      (IsRestart setup))
+  pub refused-all : Refuses facts all_nodes (λ (setup : ClusterSetup). ForEach setup.nodes (IsRestart setup))
       old new said fault → Cause All stop
   refused-all so =
-      refused-so given tells past faults before after s run old h (setup_in s run).nodes
+      refused-so given facts before after s run old h (setup_in s run).nodes
       (record { first = 1; count = s.nodes; is = refl }) (λ k there. there) said (Cause All) fault stop
       (λ ending refused. inr refused) tt
-      (λ number is. inl (ends-spent given tells past faults s run
-      (ForEach (setup_in s run).nodes (IsRestart (setup_in s run)))
+      (λ number is. inl (ends-spent given facts s run (ForEach (setup_in s run).nodes (IsRestart (setup_in s run)))
       (IsLine (setup_in s run) (Restart All)) old before after number h (all-lines (setup_in s run)) (once All)
-      (so.spent number is (setup_in s run) (cluster_in s run) (reached given tells past faults s run) h.stands)))
-      (so.refused (setup_in s run) (cluster_in s run) (reached given tells past faults s run) h.stands) stops
+      (so.spent number is (setup_in s run) (cluster_in s run) (reached given facts s run) h.stands)))
+      (so.refused (setup_in s run) (cluster_in s run) (reached given facts s run) h.stands) stops
 
 -- ---- nodes that are opened again
 
-module _ {D : Type 0} (given : Giving D) (tells : D → Bool) (past : D → List Disk) (faults : D → ℕ)
-    (before after : ℕ) (s : Setup) (run : Run)
-    (old new : Nodes D) (h : Holds given tells past faults s old run) (said : Outcome) (fault : RestartFault) where
-  pub refused-reopening : Refuses tells past faults all_nodes IsOpening old new said fault
-      → MayNotReopen (Meets given tells past faults before after) (setup_in s run) run.events (stop_for s fault)
+module _ {D : Type 0} (given : Giving D) (facts : DiskFacts D) (before after : ℕ) (s : Setup) (run : Run)
+    (old new : Nodes D) (h : Holds given facts s old run) (said : Outcome) (fault : RestartFault) where
+  pub refused-reopening : Refuses facts all_nodes IsOpening old new said fault
+      → MayNotReopen (Meets given facts before after) (setup_in s run) run.events (stop_for s fault)
   refused-reopening so =
-      refused-so given tells past faults before after s run old h (setup_in s run).nodes
+      refused-so given facts before after s run old h (setup_in s run).nodes
       (record { first = 1; count = s.nodes; is = refl }) (λ k there. there) said
-      (MayNotReopen (Meets given tells past faults before after) (setup_in s run) run.events) fault (stop_for s fault)
+      (MayNotReopen (Meets given facts before after) (setup_in s run) run.events) fault (stop_for s fault)
       (λ ending refused. inr refused) tt
-      (λ number is. inl (ends-spent given tells past faults s run (IsOpening (setup_in s run))
-      (IsOpening (setup_in s run)) old before after number h (λ c events allowed. allowed)
+      (λ number is. inl (ends-spent given facts s run (IsOpening (setup_in s run)) (IsOpening (setup_in s run)) old
+      before after number h (λ c events allowed. allowed)
       (λ k events allowed. opening-once k (setup_in s run) s.nodes refl (cluster_in s run) events allowed)
-      (so.spent number is (setup_in s run) (cluster_in s run) (reached given tells past faults s run) h.stands)))
-      (so.refused (setup_in s run) (cluster_in s run) (reached given tells past faults s run) h.stands)
-      (own-stop s fault)
+      (so.spent number is (setup_in s run) (cluster_in s run) (reached given facts s run) h.stands)))
+      (so.refused (setup_in s run) (cluster_in s run) (reached given facts s run) h.stands) (own-stop s fault)
 
 -- ---- a line that is given up
 

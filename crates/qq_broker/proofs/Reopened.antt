@@ -5,7 +5,7 @@ use Rattle.std.proofs.lemmas.List.FromFn.{length-range_with_len}
 use Rattle.qq_base.specs.declared.ids.QueueId.{QueueId}
 use Rattle.qq_disk.specs.Crash.{Remains, reopen}
 use Rattle.qq_disk.specs.declared.image.Image.{Image}
-use Rattle.qq_disk.specs.Disk.{Disk}
+use Rattle.qq_disk.specs.Facts.{DiskFacts}
 use Rattle.qq_raft_protocol.specs.Facts.{In}
 use Rattle.qq_setup.specs.declared.setup.Setup.{Setup}
 use Rattle.qq_setup.specs.Setup.{state_of}
@@ -38,10 +38,9 @@ use Rattle.qq_broker.proofs.Handed.{each-failed, seen-same}
 use Rattle.qq_broker.proofs.Refusing.{refused-reopening}
 use Rattle.qq_broker.proofs.Returned.{crashed_run, down-back, have-back, holds-back, many-back}
 
-module _ {D : Type 0} (given : Giving D) (tells : D → Bool) (past : D → List Disk) (faults : D → ℕ) (s : Setup)
-    (before again : List D) (a : Audits D) (run : Run) (images : ℕ → Image)
-    (rests : Rests given tells past faults (state_of s) before a run)
-    (back : ComeBack given tells past images before again)
+module _ {D : Type 0} (given : Giving D) (facts : DiskFacts D) (s : Setup) (before again : List D) (a : Audits D)
+    (run : Run) (images : ℕ → Image)
+    (rests : Rests given facts (state_of s) before a run) (back : ComeBack given facts images before again)
     (may : (queues : List QueueId) (i : Remains) → MayRecover queues (reopen i)) (held : Nodes D)
     (same : held ≡ record a.nodes { nodes = held.nodes })
     (get : GetDisks again a.nodes.nodes.items held.nodes.items) where
@@ -49,19 +48,19 @@ module _ {D : Type 0} (given : Giving D) (tells : D → Bool) (past : D → List
   S = setup_in s run
 
   abbrev gone_on : Run
-  gone_on = crashed_run given tells past faults s before again a run images rests back may held same get
+  gone_on = crashed_run given facts s before again a run images rests back may held same get
 
   abbrev c : Cluster
   c = cluster_in s gone_on
 
-  h : Holds given tells past faults s held gone_on
-  h = holds-back given tells past faults s before again a run images rests back may held same get
+  h : Holds given facts s held gone_on
+  h = holds-back given facts s before again a run images rests back may held same get
 
-  have : HaveDisks tells past faults again held
-  have = have-back given tells past faults s before again a run images rests back may held same get
+  have : HaveDisks facts again held
+  have = have-back given facts s before again a run images rests back may held same get
 
   many : length again ≡ length held.nodes.items
-  many = many-back given tells past faults s before again a run images rests back may held same get
+  many = many-back given facts s before again a run images rests back may held same get
 
   -- as many as the setup has nodes
   pub so-many : length again ≡ s.nodes
@@ -69,26 +68,24 @@ module _ {D : Type 0} (given : Giving D) (tells : D → Bool) (past : D → List
       many ∙ sym (length-range_with_len 1 (length held.nodes.items)) ∙ ap length (sym h.stands.set_up.nodes)
       ∙ length-range_with_len 1 s.nodes
 
-  pub can-reopen : CanServe tells past held
-  can-reopen = can-serve given tells past faults s held gone_on h
+  pub can-reopen : CanServe facts held
+  can-reopen = can-serve given facts s held gone_on h
 
   -- ---- each node was restarted
 
   module _ (some : Bool) (new : Nodes D) (first later : Outcome)
-      (so : Served tells past faults (IsReopening some) held new first later) where
-    sv : Serves S c (IsReopening some S c) (Stands tells past S new) (seen tells past faults held)
-        (seen tells past faults new) first later
-    sv = so.serves S c (reached given tells past faults s gone_on) h.stands
+      (so : Served facts (IsReopening some) held new first later) where
+    sv : Serves S c (IsReopening some S c) (Stands facts S new) (seen facts held) (seen facts new) first later
+    sv = so.serves S c (reached given facts s gone_on) h.stands
 
     few : (k : ℕ) → failures k sv.did.events ≤ 1
     few k = opening-once k S s.nodes refl c sv.did.events (reopening-opens some S c sv.did.events sv.did.means)
 
-    holds : Holds given tells past faults s new (with_events run (gone_on.events ++ sv.did.events))
+    holds : Holds given facts s new (with_events run (gone_on.events ++ sv.did.events))
     holds =
-        holds-more given tells past faults s gone_on held new sv.did.events run.lines h sv.did.stands
-        (λ k there mid last was is restarted b. became-served given tells past faults S gone_on.events
-        (IsReopening some S c) (Stands tells past S new) held new first later sv k there (few k) mid last was is
-        restarted b)
+        holds-more given facts s gone_on held new sv.did.events run.lines h sv.did.stands
+        (λ k there mid last was is restarted b. became-served given facts S gone_on.events (IsReopening some S c)
+        (Stands facts S new) held new first later sv k there (few k) mid last was is restarted b)
 
     pub still-there : EachHasLog new.nodes.items
     still-there = (stands-logs S new (cluster_after c sv.did.events) sv.did.stands).each
@@ -102,19 +99,19 @@ module _ {D : Type 0} (given : Giving D) (tells : D → Bool) (past : D → List
     -- some node is up
     pub has-reopened : (b : Broker D) → some ≡ true → b.setup ≡ s → b.nodes ≡ new → b.room.items ≡ []
         → s.nodes ≤ vec_capacity b.room
-        → HasReopened (Had given tells past faults) S (crashed_events S run.events images)
-        (λ (events : List ClusterEvent). Runs given tells past faults b (with_events run events)) first later
+        → HasReopened (Had given facts) S (crashed_events S run.events images)
+        (λ (events : List ClusterEvent). Runs given facts b (with_events run events)) first later
     has-reopened b up own_setup own_nodes empty room = record {
       more = sv.did.events;
       allowed = subst (λ (x : Bool). IsReopening x S c sv.did.events) up sv.did.means;
-      disks = had-so given tells past faults s new (with_events run (gone_on.events ++ sv.did.events)) holds;
+      disks = had-so given facts s new (with_events run (gone_on.events ++ sv.did.events)) holds;
       stands = record {
         may = subst MayRun (sym own_setup) rests.may;
         holds = subst
-            (λ (t : Setup). Holds given tells past faults t b.nodes
-            (with_events run (gone_on.events ++ sv.did.events))) (sym own_setup)
+            (λ (t : Setup). Holds given facts t b.nodes (with_events run (gone_on.events ++ sv.did.events)))
+            (sym own_setup)
             (subst
-            (λ (n : Nodes D). Holds given tells past faults s n (with_events run (gone_on.events ++ sv.did.events)))
+            (λ (n : Nodes D). Holds given facts s n (with_events run (gone_on.events ++ sv.did.events)))
             (sym own_nodes) holds);
         empty = empty;
         room = subst (λ (t : Setup). t.nodes ≤ vec_capacity b.room) (sym own_setup) room;
@@ -124,27 +121,22 @@ module _ {D : Type 0} (given : Giving D) (tells : D → Bool) (past : D → List
     }
 
     -- none is, and these are left of the disks
-    module _ (left : List D) (still : HaveDisks tells past faults left new)
-        (count : length left ≡ length new.nodes.items) where
-      pub kept-where-none : StillKeep tells past faults S (crashed_events S run.events images) again left
+    module _ (left : List D) (still : HaveDisks facts left new) (count : length left ≡ length new.nodes.items) where
+      pub kept-where-none : StillKeep facts S (crashed_events S run.events images) again left
       kept-where-none = record {
         count = count ∙ still-so-many;
         gives_up =
-            subst (λ (v : ℕ → Seen). GivesUp S c v (seen_among tells past faults left))
-            (seen-same tells past faults held again have many)
-            (subst (GivesUp S c (seen tells past faults held)) (seen-same tells past faults new left still count)
-            (gives_up-behind S c (IsReopening some S c) (Stands tells past S new) (seen tells past faults held)
-            (seen tells past faults new) (seen tells past faults new) first later sv
-            (gives_up-same S (cluster_after c sv.did.events) (seen tells past faults new))));
+            subst (λ (v : ℕ → Seen). GivesUp S c v (seen_among facts left)) (seen-same facts held again have many)
+            (subst (GivesUp S c (seen facts held)) (seen-same facts new left still count)
+            (gives_up-behind S c (IsReopening some S c) (Stands facts S new) (seen facts held) (seen facts new)
+            (seen facts new) first later sv (gives_up-same S (cluster_after c sv.did.events) (seen facts new))));
       }
 
-      pub failed-where-none : some ≡ false → EachFailed faults again left
+      pub failed-where-none : some ≡ false → EachFailed facts.faults again left
       failed-where-none down =
-          each-failed tells past faults held new again left have still (λ i lt.
-          sv.cause (i + 1) (none-recovered S c sv.did.events
+          each-failed facts held new again left have still (λ i lt. sv.cause (i + 1) (none-recovered S c sv.did.events
           (subst (λ (x : Bool). IsReopening x S c sv.did.events) down sv.did.means) (i + 1) (there i lt)
-          (down-back given tells past faults s before again a run images rests back may held same get (i + 1)
-          (there i lt))))
+          (down-back given facts s before again a run images rests back may held same get (i + 1) (there i lt))))
         where
           there : (i : ℕ) → i < length again → In (i + 1) S.nodes
           there i lt =
@@ -154,9 +146,9 @@ module _ {D : Type 0} (given : Giving D) (tells : D → Bool) (past : D → List
   -- ---- a node isn't
 
   module _ (fault : RestartFault) (new : Nodes D) (first : Outcome)
-      (so : Refuses tells past faults all_nodes IsOpening held new first fault) where
+      (so : Refuses facts all_nodes IsOpening held new first fault) where
     logs : HaveLogs S new.nodes.items
-    logs = so.logs S c (reached given tells past faults s gone_on) h.stands
+    logs = so.logs S c (reached given facts s gone_on) h.stands
 
     pub refused-logs : EachHasLog new.nodes.items
     refused-logs = logs.each
@@ -166,17 +158,15 @@ module _ {D : Type 0} (given : Giving D) (tells : D → Bool) (past : D → List
         sym (length-range_with_len 1 (length new.nodes.items)) ∙ ap length (sym logs.nodes_are ∙ h.stands.set_up.nodes)
         ∙ length-range_with_len 1 (length held.nodes.items) ∙ sym many
 
-    pub refused-cause : MayNotReopen (Meets given tells past faults 0 0) S (crashed_events S run.events images)
-        (stop_for s fault)
-    refused-cause = refused-reopening given tells past faults 0 0 s gone_on held new h first fault so
+    pub refused-cause : MayNotReopen (Meets given facts 0 0) S (crashed_events S run.events images) (stop_for s fault)
+    refused-cause = refused-reopening given facts 0 0 s gone_on held new h first fault so
 
-    pub refused-keeps : (left : List D) → HaveDisks tells past faults left new → length left ≡ length new.nodes.items
-        → StillKeep tells past faults S (crashed_events S run.events images) again left
+    pub refused-keeps : (left : List D) → HaveDisks facts left new → length left ≡ length new.nodes.items
+        → StillKeep facts S (crashed_events S run.events images) again left
     refused-keeps left still count = record {
       count = count ∙ refused-many;
       gives_up =
-          subst (λ (v : ℕ → Seen). GivesUp S c v (seen_among tells past faults left))
-          (seen-same tells past faults held again have many)
-          (subst (GivesUp S c (seen tells past faults held)) (seen-same tells past faults new left still count)
-          (so.gives_up S c (reached given tells past faults s gone_on) h.stands));
+          subst (λ (v : ℕ → Seen). GivesUp S c v (seen_among facts left)) (seen-same facts held again have many)
+          (subst (GivesUp S c (seen facts held)) (seen-same facts new left still count)
+          (so.gives_up S c (reached given facts s gone_on) h.stands));
     }

@@ -6,12 +6,12 @@ use Rattle.std.proofs.lemmas.List.FromFn.{length-range_with_len}
 use Rattle.std.proofs.lemmas.Option.{slice_get_cases}
 use Rattle.qq_disk.specs.declared.image.Image.{Image}
 use Rattle.qq_disk.specs.declared.image.Tail.TheVariants.{Whole}
-use Rattle.qq_disk.specs.Disk.{Disk}
 use Rattle.qq_disk.proofs.Moments.{adds-none}
 use Rattle.qq_base.specs.Causes.{SpentOnlyWhere}
 use Rattle.qq_base.specs.declared.ids.QueueId.{QueueId}
 use Rattle.qq_base.specs.declared.memory.Memory.{Memory}
 use Rattle.qq_base.specs.declared.memory.TheConstants.{NUMBER_END}
+use Rattle.qq_disk.specs.Facts.{DiskFacts}
 use Rattle.qq_cluster_queue.specs.declared.cluster_queue.ClusterQueue.{ClusterQueue}
 use Rattle.qq_entry.specs.declared.audit.AuditRow.{AuditRow}
 use Rattle.qq_entry.specs.declared.command.Entry.{Entry}
@@ -61,50 +61,48 @@ audit-stays f images (k ∷ list) c place =
         → f (happens q (Stops k)).args (happens q (Stops k)).group.audit ≡ f q.args q.group.audit
     one q = refl
 
-module _ {D : Type 0} (given : Giving D) (tells : D → Bool) (past : D → List Disk) (faults : D → ℕ) where
+module _ {D : Type 0} (given : Giving D) (facts : DiskFacts D) where
   -- ---- a disk that a clause sees alike
 
   one-alike : (setup : ClusterSetup) (k : ℕ) (c : Cluster) (last disk : D)
-      → seen_of tells past faults last ≡ seen_of tells past faults disk
-      → IsOneDisk tells past faults setup k c [] last disk
+      → seen_of facts last ≡ seen_of facts disk → IsOneDisk facts setup k c [] last disk
   one-alike setup k c last disk same = record {
     told = ap (λ (v : Seen). v.tells) (sym same);
-    rose = inl (let e : faults last ≡ faults disk = ap (λ (v : Seen). v.faults) same in omega (arith, e));
+    rose = inl (let e : facts.faults last ≡ facts.faults disk = ap (λ (v : Seen). v.faults) same in omega (arith, e));
     traced = λ tell linked.
-        subst (IsTracedAt setup c k [] (past last)) (ap (λ (v : Seen). v.past) same)
-        (linked.promised, adds-none (IsPromised setup c k) (past last), linked);
+        subst (IsTracedAt setup c k [] (facts.past last)) (ap (λ (v : Seen). v.past) same)
+        (linked.promised, adds-none (IsPromised setup c k) (facts.past last), linked);
   }
 
   -- what has become of a disk, has become of one that is seen alike
   pub became-alike : (setup : ClusterSetup) (events : List ClusterEvent) (k : ℕ) (last disk : D)
       → is_some (first_restart k events) ≡ true
-      → seen_of tells past faults last ≡ seen_of tells past faults disk
-      → Became given tells past faults setup events k last → Became given tells past faults setup events k disk
+      → seen_of facts last ≡ seen_of facts disk
+      → Became given facts setup events k last → Became given facts setup events k disk
   became-alike setup events k last disk restarted same b =
-      subst (λ (l : List ClusterEvent). Became given tells past faults setup l k disk) (append-nil events) (record {
+      subst (λ (l : List ClusterEvent). Became given facts setup l k disk) (append-nil events) (record {
         first = b.first;
         given_is = b.given_is;
-        begins = begins-stay tells past faults setup k b.first events [] restarted b.begins;
-        lives = lives-then given tells past faults setup k (after_all setup events) (new_cluster setup) [] events []
-            b.first last disk refl b.lives
-            (goes-on given tells past faults setup k (after_all setup events) [] last disk tt
+        begins = begins-stay facts setup k b.first events [] restarted b.begins;
+        lives = lives-then given facts setup k (after_all setup events) (new_cluster setup) [] events [] b.first
+            last disk refl b.lives
+            (goes-on given facts setup k (after_all setup events) [] last disk tt
             (one-alike setup k (after_all setup events) last disk same));
       })
 
   -- ---- all nodes stop
 
   module _ (b : Broker D) (held : Nodes D)
-      (stands : (setup : ClusterSetup) (c : Cluster) (images : ℕ → Image) → Stands tells past setup b.nodes c
-      → Stands tells past setup held (cluster_after c (crashes_with images setup.nodes)))
-      (same : (k : ℕ) → seen tells past faults held k ≡ seen tells past faults b.nodes k) where
-    pub stopped-logs : (run : Run) (image : Image) → Runs given tells past faults b run → EachHasLog held.nodes.items
+      (stands : (setup : ClusterSetup) (c : Cluster) (images : ℕ → Image) → Stands facts setup b.nodes c
+      → Stands facts setup held (cluster_after c (crashes_with images setup.nodes)))
+      (same : (k : ℕ) → seen facts held k ≡ seen facts b.nodes k) where
+    pub stopped-logs : (run : Run) (image : Image) → Runs given facts b run → EachHasLog held.nodes.items
     stopped-logs run image so =
         (stands-logs (setup_in b.setup run) held
         (cluster_after (cluster_in b.setup run) (crashes_with (λ k. image) (setup_in b.setup run).nodes))
         (stands (setup_in b.setup run) (cluster_in b.setup run) (λ k. image) so.holds.stands)).each
 
-    pub stopped-many : (run : Run) (image : Image) → Runs given tells past faults b run
-        → length held.nodes.items ≡ b.setup.nodes
+    pub stopped-many : (run : Run) (image : Image) → Runs given facts b run → length held.nodes.items ≡ b.setup.nodes
     stopped-many run image so =
         sym (length-range_with_len 1 (length held.nodes.items))
         ∙ ap length (sym (stands (setup_in b.setup run) (cluster_in b.setup run) (λ k. image)
@@ -113,14 +111,14 @@ module _ {D : Type 0} (given : Giving D) (tells : D → Bool) (past : D → List
 
     module _ (news : Nodes D) (disks : List D) (left : news ≡ record held { nodes = news.nodes })
         (gave : GiveDisks held.nodes.items news.nodes.items disks) where
-      pub own-disks : HaveDisks tells past faults disks b.nodes
+      pub own-disks : HaveDisks facts disks b.nodes
       own-disks at disk here =
-          sym (same (at + 1)) ∙ gave-have tells past faults held news.nodes.items disks gave at disk here
+          sym (same (at + 1)) ∙ gave-have facts held news.nodes.items disks gave at disk here
 
-      pub own-rests : (a : Audits D) (run : Run) (image : Image) → a.nodes ≡ news → Runs given tells past faults b run
-          → Rests given tells past faults (state_of b.setup) disks a run
+      pub own-rests : (a : Audits D) (run : Run) (image : Image) → a.nodes ≡ news → Runs given facts b run
+          → Rests given facts (state_of b.setup) disks a run
       own-rests a run image is so =
-          subst (λ (x : Audits D). Rests given tells past faults (state_of b.setup) disks x run)
+          subst (λ (x : Audits D). Rests given facts (state_of b.setup) disks x run)
           (ap (λ (n : Nodes D). let x : Audits D = record { nodes = n } in x) (sym is))
           (record {
             may = so.may;
@@ -136,11 +134,11 @@ module _ {D : Type 0} (given : Giving D) (tells : D → Bool) (past : D → List
               → ((x : D) × (k - 1 < length disks) × (slice_get disks (k - 1) ≡ Some x) × (get_or disks (k - 1) x ≡ x))
               ⊎ ((length disks ≤ k - 1) × (slice_get disks (k - 1) ≡ None))
               → (last : D) × (disk_at k disks ≡ Some last)
-              × Became given tells past faults (setup_in b.setup run) run.events k last
+              × Became given facts (setup_in b.setup run) run.events k last
           at k e there lt (inl found) =
               let was = so.holds.disks k there in
-              let is' : IsDiskOf tells past faults b.nodes k found.0 =
-              subst (λ (i : ℕ). IsDiskOf tells past faults b.nodes i found.0) e (own-disks (k - 1) found.0 found.2) in (
+              let is' : IsDiskOf facts b.nodes k found.0 =
+              subst (λ (i : ℕ). IsDiskOf facts b.nodes i found.0) e (own-disks (k - 1) found.0 found.2) in (
                 found.0,
                 subst (λ (i : ℕ). disk_at i disks ≡ Some found.0) e (at-index disks (k - 1) found.0 found.2),
                 became-alike (setup_in b.setup run) run.events k was.0 found.0 (so.holds.restarted k there)
@@ -150,7 +148,7 @@ module _ {D : Type 0} (given : Giving D) (tells : D → Bool) (past : D → List
 
           by : (k : ℕ) → In k (setup_in b.setup run).nodes → (1 ≤ k) × (k < 1 + b.setup.nodes)
               → (last : D) × (disk_at k disks ≡ Some last)
-              × Became given tells past faults (setup_in b.setup run) run.events k last
+              × Became given facts (setup_in b.setup run) run.events k last
           by k there within =
               let low = within.0 in
               let high = within.1 in
@@ -160,8 +158,8 @@ module _ {D : Type 0} (given : Giving D) (tells : D → Bool) (past : D → List
 
 -- ---- audits
 
-module _ {D : Type 0} {given : Giving D} {tells : D → Bool} {past : D → List Disk} {faults : D → ℕ} (t : SetupState)
-    (disks : List D) (a : Audits D) (run : Run) (rests : Rests given tells past faults t disks a run) where
+module _ {D : Type 0} {given : Giving D} {facts : DiskFacts D} (t : SetupState) (disks : List D) (a : Audits D)
+    (run : Run) (rests : Rests given facts t disks a run) where
   same-queues : a.nodes.queues ≡ rests.held.queues
   same-queues = ap (λ (n : Nodes D). n.queues) rests.same
 
@@ -175,8 +173,7 @@ module _ {D : Type 0} {given : Giving D} {tells : D → Bool} {past : D → List
 
   pub audit-rests : (queue : QueueId) (before later : List ℕ)
       → ((setup : ClusterSetup) (c : Cluster) (held : Nodes D) → held.queues ≡ a.nodes.queues
-      → Stands tells past setup held c
-      → later ≡ before ++ audit_text (setup.name queue.0) 0 (audit_rows (c.queue queue.0)))
+      → Stands facts setup held c → later ≡ before ++ audit_text (setup.name queue.0) 0 (audit_rows (c.queue queue.0)))
       → later ≡ before ++ audit_text ((setup_at t run).name queue.0) 0 (audit_rows ((cluster_at t run).queue queue.0))
   audit-rests queue before later say =
       say (setup_at t run)
@@ -189,7 +186,7 @@ module _ {D : Type 0} {given : Giving D} {tells : D → Bool} {past : D → List
   -- and why there is none
   pub caused-rests : (queue : QueueId) (e : Memory)
       → ((setup : ClusterSetup) (c : Cluster) (held : Nodes D) → held.queues ≡ a.nodes.queues
-      → Stands tells past setup held c → SpentOnlyWhere e NUMBER_END (IsPastEnd (c.queue queue.0)))
+      → Stands facts setup held c → SpentOnlyWhere e NUMBER_END (IsPastEnd (c.queue queue.0)))
       → SpentOnlyWhere e NUMBER_END (IsPastEnd ((cluster_at t run).queue queue.0))
   caused-rests queue e say =
       subst (λ (within : Bool). SpentOnlyWhere e NUMBER_END (within ≡ false))

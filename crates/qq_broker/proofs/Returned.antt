@@ -1,5 +1,5 @@
 -- Disks come back, as they were or after a crash, and nodes go on with them.
-use Rattle.std.proofs.Common.{◌≡◌, ◌+◌, ◌-◌, ℕ, zero, suc, Bool, true, false, List, [], ◌∷◌, ◌++◌, length, Some, refl, sym, ap, subst, ◌∙◌, inl, inr, append_assoc, arith}
+use Rattle.std.proofs.Common.{◌≡◌, ◌+◌, ◌-◌, ℕ, zero, suc, true, false, List, [], ◌∷◌, ◌++◌, length, Some, refl, sym, ap, subst, ◌∙◌, inl, inr, append_assoc, arith}
 use Rattle.std.specs.Prelude.{IsTrue, is_some, slice_get}
 use Rattle.std.specs.List.{range_with_len}
 use Rattle.std.proofs.lemmas.Bool.{false≢true, ne_eqb}
@@ -10,7 +10,8 @@ use Rattle.qq_base.specs.declared.ids.QueueId.{QueueId}
 use Rattle.qq_disk.specs.Crash.{Remains, reopen}
 use Rattle.qq_disk.specs.Image.{image_of}
 use Rattle.qq_disk.specs.declared.image.Image.{Image}
-use Rattle.qq_disk.specs.Disk.{Disk, now}
+use Rattle.qq_disk.specs.Disk.{now}
+use Rattle.qq_disk.specs.Facts.{DiskFacts}
 use Rattle.qq_lots.specs.Lots.{ids_of}
 use Rattle.qq_node_log.specs.Log.{IsWhole, disk_in}
 use Rattle.qq_node_log.specs.declared.node_log.NodeLog.{NodeLog}
@@ -75,50 +76,47 @@ unseen-crashes images (j ∷ list) k away =
 
 -- ---- a disk
 
-module _ {D : Type 0} (given : Giving D) (tells : D → Bool) (past : D → List Disk) (faults : D → ℕ)
-    (setup : ClusterSetup) where
+module _ {D : Type 0} (given : Giving D) (facts : DiskFacts D) (setup : ClusterSetup) where
   became-crashed : (events : List ClusterEvent) (k : ℕ) (image : Image) (mid last : D)
-      → is_some (first_restart k events) ≡ true → IsLeft given tells past image mid last
-      → Became given tells past faults setup events k mid
-      → Became given tells past faults setup (events ++ Crashes k image ∷ []) k last
+      → is_some (first_restart k events) ≡ true → IsLeft given facts image mid last
+      → Became given facts setup events k mid → Became given facts setup (events ++ Crashes k image ∷ []) k last
   became-crashed events k image mid last restarted left b = record {
     first = b.first;
     given_is = b.given_is;
-    begins = begins-stay tells past faults setup k b.first events (Crashes k image ∷ []) restarted b.begins;
-    lives = lives-then given tells past faults setup k (after_all setup events) (new_cluster setup) [] events
-        (Crashes k image ∷ []) b.first mid last refl b.lives
-        (goes-crashed given tells past faults setup k (after_all setup events) image mid last left);
+    begins = begins-stay facts setup k b.first events (Crashes k image ∷ []) restarted b.begins;
+    lives = lives-then given facts setup k (after_all setup events) (new_cluster setup) [] events (Crashes k image ∷ [])
+        b.first mid last refl b.lives
+        (goes-crashed given facts setup k (after_all setup events) image mid last left);
   }
 
   became-unseen : (events more : List ClusterEvent) (k : ℕ) (disk : D) → is_some (first_restart k events) ≡ true
-      → AreUnseen k more → Became given tells past faults setup events k disk
-      → Became given tells past faults setup (events ++ more) k disk
+      → AreUnseen k more → Became given facts setup events k disk → Became given facts setup (events ++ more) k disk
   became-unseen events more k disk restarted unseen b = record {
     first = b.first;
     given_is = b.given_is;
-    begins = begins-stay tells past faults setup k b.first events more restarted b.begins;
-    lives = lives-then given tells past faults setup k (after_all setup events) (new_cluster setup) [] events more
-        b.first disk disk refl b.lives
-        (goes-on given tells past faults setup k (after_all setup events) more disk disk (no-crash k more unseen)
-        (same-disk tells past faults setup k (after_all setup events) more disk unseen));
+    begins = begins-stay facts setup k b.first events more restarted b.begins;
+    lives = lives-then given facts setup k (after_all setup events) (new_cluster setup) [] events more b.first
+        disk disk refl b.lives
+        (goes-on given facts setup k (after_all setup events) more disk disk (no-crash k more unseen)
+        (same-disk facts setup k (after_all setup events) more disk unseen));
   }
 
   pub became-crashes : (images : ℕ → Image) (k : ℕ) (mid last : D) (a n : ℕ) (events : List ClusterEvent)
       → In k (range_with_len a n) → is_some (first_restart k events) ≡ true
-      → IsLeft given tells past (images k) mid last → Became given tells past faults setup events k mid
-      → Became given tells past faults setup (events ++ crashes_with images (range_with_len a n)) k last
+      → IsLeft given facts (images k) mid last → Became given facts setup events k mid
+      → Became given facts setup (events ++ crashes_with images (range_with_len a n)) k last
   became-crashes images k mid last a zero events there restarted left b = absurd there
   became-crashes images k mid last a (suc n) events (inl same) restarted left b =
-      subst (λ (l : List ClusterEvent). Became given tells past faults setup l k last)
+      subst (λ (l : List ClusterEvent). Became given facts setup l k last)
       (append_assoc events (Crashes a (images a) ∷ []) (crashes_with images (range_with_len (a + 1) n)))
       (became-unseen (events ++ Crashes a (images a) ∷ []) (crashes_with images (range_with_len (a + 1) n)) k last
       (restarted-stays k events (Crashes a (images a) ∷ []) restarted)
       (unseen-crashes images (range_with_len (a + 1) n) k
       (λ later. (let within = in-range k (a + 1) n later in let low = within.0 in absurd (omega (arith, low, same)))))
-      (subst (λ (i : ℕ). Became given tells past faults setup (events ++ Crashes i (images i) ∷ []) k last) same
+      (subst (λ (i : ℕ). Became given facts setup (events ++ Crashes i (images i) ∷ []) k last) same
       (became-crashed events k (images k) mid last restarted left b)))
   became-crashes images k mid last a (suc n) events (inr later) restarted left b =
-      subst (λ (l : List ClusterEvent). Became given tells past faults setup l k last)
+      subst (λ (l : List ClusterEvent). Became given facts setup l k last)
       (append_assoc events (Crashes a (images a) ∷ []) (crashes_with images (range_with_len (a + 1) n)))
       (became-crashes images k mid last (a + 1) n (events ++ Crashes a (images a) ∷ []) later
       (restarted-stays k events (Crashes a (images a) ∷ []) restarted) left
@@ -131,10 +129,9 @@ module _ {D : Type 0} (given : Giving D) (tells : D → Bool) (past : D → List
 
 -- ---- the nodes
 
-module _ {D : Type 0} (given : Giving D) (tells : D → Bool) (past : D → List Disk) (faults : D → ℕ) (s : Setup)
-    (before again : List D) (a : Audits D) (run : Run) (images : ℕ → Image)
-    (rests : Rests given tells past faults (state_of s) before a run)
-    (back : ComeBack given tells past images before again)
+module _ {D : Type 0} (given : Giving D) (facts : DiskFacts D) (s : Setup) (before again : List D) (a : Audits D)
+    (run : Run) (images : ℕ → Image)
+    (rests : Rests given facts (state_of s) before a run) (back : ComeBack given facts images before again)
     (may : (queues : List QueueId) (i : Remains) → MayRecover queues (reopen i)) (held : Nodes D)
     (same : held ≡ record a.nodes { nodes = held.nodes })
     (get : GetDisks again a.nodes.nodes.items held.nodes.items) where
@@ -144,27 +141,27 @@ module _ {D : Type 0} (given : Giving D) (tells : D → Bool) (past : D → List
   abbrev crashed : Cluster
   crashed = cluster_after (cluster_in s run) (crashes_with images S.nodes)
 
-  st : Stands tells past S rests.held crashed
+  st : Stands facts S rests.held crashed
   st = rests.stands images
 
   nodes-are : length held.nodes.items ≡ length rests.held.nodes.items
   nodes-are = get.count ∙ rests.gave.count
 
   -- a disk that came back may be recovered
-  whole-back : (k : ℕ) (ids : List QueueId) (old new : D) → IsLeft given tells past (images k) old new
-      → IsWhole tells past ids old → IsWhole tells past ids new
+  whole-back : (k : ℕ) (ids : List QueueId) (old new : D) → IsLeft given facts (images k) old new
+      → IsWhole facts ids old → IsWhole facts ids new
   whole-back k ids old new (inl image) whole tell =
-      let told : IsTrue (tells old) = subst IsTrue image.told tell in
+      let told : IsTrue (facts.tells old) = subst IsTrue image.told tell in
       let left = (image.left told).left in
-      subst (MayRecover ids) (sym left.left) (may ids (image_of (images k) left.newest (now (past old))))
+      subst (MayRecover ids) (sym left.left) (may ids (image_of (images k) left.newest (now (facts.past old))))
   whole-back k ids old new (inr kept) whole tell =
-      subst (λ (d : D). IsTrue (tells d) → MayRecover ids (now (past d))) (sym kept.1) whole tell
+      subst (λ (d : D). IsTrue (facts.tells d) → MayRecover ids (now (facts.past d))) (sym kept.1) whole tell
 
   -- a node has its own again
   node-back : (at : ℕ) (z : Node D) → slice_get held.nodes.items at ≡ Some z
-      → IsNodeOf tells past S crashed (at + 1) z
+      → IsNodeOf facts S crashed (at + 1) z
   node-back at z here =
-      subst (IsNodeOf tells past S crashed (at + 1)) (sym is) (record {
+      subst (IsNodeOf facts S crashed (at + 1)) (sym is) (record {
         id_is = was.id_is;
         few = was.few;
         up_is = was.up_is;
@@ -193,7 +190,7 @@ module _ {D : Type 0} (given : Giving D) (tells : D → Bool) (past : D → List
       old : (d : D) × (slice_get before at ≡ Some d)
       old = item-too again before at disk.0 disk.1 (sym back.count)
 
-      was : IsNodeOf tells past S crashed (at + 1) own.0
+      was : IsNodeOf facts S crashed (at + 1) own.0
       was = st.nodes at own.0 own.1
 
       gives : GivesDisk own.0 bare.0 old.0
@@ -211,16 +208,16 @@ module _ {D : Type 0} (given : Giving D) (tells : D → Bool) (past : D → List
           (range-in (at + 1) 1 (length rests.held.nodes.items) (omega arith)
           (let lt = slice_get_within rests.held.nodes.items at own.0 own.1 in omega (arith, lt))))
 
-      whole : IsWhole tells past (ids_of (lot_of S (at + 1))) old.0
+      whole : IsWhole facts (ids_of (lot_of S (at + 1))) old.0
       whole =
-          subst (IsWhole tells past (ids_of (lot_of S (at + 1))))
+          subst (IsWhole facts (ids_of (lot_of S (at + 1))))
           (ap (λ (l : NodeLog D). disk_in l) (some-is was.own gives.own (sym was.log_is ∙ gives.was))
           ∙ sym gives.disk_is)
           was.log.whole
 
-  stands-back : Stands tells past S held crashed
+  stands-back : Stands facts S held crashed
   stands-back =
-      subst (λ (h : Nodes D). Stands tells past S h crashed)
+      subst (λ (h : Nodes D). Stands facts S h crashed)
       (sym (same ∙ ap (λ (h : Nodes D). record h { nodes = held.nodes }) rests.same)) (record {
         set_up = subst (IsSetUp S (length rests.held.queues.items)) (sym nodes-are) st.set_up;
         queues = st.queues;
@@ -234,9 +231,9 @@ module _ {D : Type 0} (given : Giving D) (tells : D → Bool) (past : D → List
   abbrev pub crashed_run : Run
   crashed_run = with_events run (crashed_events S run.events images)
 
-  pub holds-back : Holds given tells past faults s held crashed_run
+  pub holds-back : Holds given facts s held crashed_run
   holds-back = record {
-    stands = subst (Stands tells past S held)
+    stands = subst (Stands facts S held)
         (sym (after-both (new_cluster S) run.events (crashes_with images S.nodes))) stands-back;
     restarted = λ k there.
         restarted-stays k run.events (crashes_with images S.nodes) (rests.restarted k there);
@@ -244,9 +241,8 @@ module _ {D : Type 0} (given : Giving D) (tells : D → Bool) (past : D → List
   }
     where
       by : (k : ℕ) → In k S.nodes
-          → ((last : D) × (disk_at k before ≡ Some last) × Became given tells past faults S run.events k last)
-          → (last : D) × IsDiskOf tells past faults held k last
-          × Became given tells past faults S (crashed_events S run.events images) k last
+          → ((last : D) × (disk_at k before ≡ Some last) × Became given facts S run.events k last)
+          → (last : D) × IsDiskOf facts held k last × Became given facts S (crashed_events S run.events images) k last
       by k there was =
           let at = from-index before k was.0 was.1 in
           let own = item-too before again at.0 was.0 at.2 back.count in
@@ -257,10 +253,10 @@ module _ {D : Type 0} (given : Giving D) (tells : D → Bool) (past : D → List
           subst (λ (i : ℕ). disk_at i again ≡ Some own.0) at.1 (at-index again at.0 own.0 own.1) in
           let index : k - 1 ≡ at.0 = (let e = at.1 in omega (arith, e)) in (
             own.0,
-            seen-own tells past faults held k node.0 (Closed own.0) (let e = at.1 in omega (arith, e))
+            seen-own facts held k node.0 (Closed own.0) (let e = at.1 in omega (arith, e))
                 (ap (slice_get held.nodes.items) index ∙ node.1) (ap (λ (n : Node D). n.log) is),
-            became-crashes given tells past faults S images k was.0 own.0 1 s.nodes run.events there
-                (rests.restarted k there) (back.each k was.0 own.0 was.1 here) was.2,
+            became-crashes given facts S images k was.0 own.0 1 s.nodes run.events there (rests.restarted k there)
+                (back.each k was.0 own.0 was.1 here) was.2,
           )
 
   pub down-back : (k : ℕ) → In k S.nodes → (cluster_in s crashed_run).up k ≡ false
@@ -269,11 +265,11 @@ module _ {D : Type 0} (given : Giving D) (tells : D → Bool) (past : D → List
       ∙ all-down images S.nodes (cluster_in s run) k there
 
   -- a clause sees the disks that were handed in
-  pub have-back : HaveDisks tells past faults again held
+  pub have-back : HaveDisks facts again held
   have-back at disk here =
       let node = item-too again held.nodes.items at disk here (get.count ∙ sym get.many) in
       let bare = item-too held.nodes.items a.nodes.nodes.items at node.0 node.1 (sym get.count) in
-      seen-own tells past faults held (at + 1) node.0 (Closed disk) (omega arith)
+      seen-own facts held (at + 1) node.0 (Closed disk) (omega arith)
       (subst (λ (i : ℕ). slice_get held.nodes.items i ≡ Some node.0) (let e : at ≡ (at + 1) - 1 = omega arith in e)
       node.1)
       (ap (λ (n : Node D). n.log) (get.each at disk bare.0 node.0 here bare.1 node.1))

@@ -1,8 +1,9 @@
 -- What the disks of a run keep.
-use Rattle.std.proofs.Common.{ℕ, Bool, List}
+use Rattle.std.proofs.Common.{ℕ, List}
 use Rattle.std.specs.Prelude.{IsTrue}
 use Rattle.qq_disk.specs.declared.image.Image.{Image}
-use Rattle.qq_disk.specs.Disk.{Disk, now}
+use Rattle.qq_disk.specs.Disk.{now}
+use Rattle.qq_disk.specs.Facts.{DiskFacts}
 use Rattle.qq_raft_protocol.specs.Facts.{In}
 use Rattle.qq_script_lines.specs.declared.line.Nodes.{Nodes}
 use Rattle.qq_script_lines.specs.declared.line.ScriptLine.TheVariants as lines
@@ -20,26 +21,25 @@ use Rattle.qq_broker.proofs.Keeping.{AreNew, IsEmptyPromised, IsHonestWithoutJun
 use Rattle.qq_broker.proofs.Restarted.{restarted}
 
 module _ (readable : IsReadWherePromised) (empty : IsEmptyPromised) (honest : IsHonestWithoutJunk) {D : Type 0}
-    (given : Giving D) (tells : D → Bool) (past : D → List Disk) (faults : D → ℕ) (first : Takers) (s : Setup)
-    (all left : List Input) (b : Behind (RunHad given tells past faults first) s all left) (all_new : (k : ℕ) → AreNew given tells past k)
-    (shows : (disk : D) → IsTrue (tells disk))
+    (given : Giving D) (facts : DiskFacts D) (first : Takers) (s : Setup) (all left : List Input)
+    (b : Behind (RunHad given facts first) s all left) (all_new : (k : ℕ) → AreNew given facts k)
+    (shows : (disk : D) → IsTrue (facts.tells disk))
     (clean : (nodes : Nodes) (image : Image) → In (lines.Crash nodes image) b.lines → HasNoJunk image) (k : ℕ)
     (there : In k (setup_behind b).nodes) where
   -- after each line the log of each node is linked to its disk
-  pub run-linked : (last : D) → Became given tells past faults (setup_behind b) b.events k last
-      → IsLinked (setup_behind b) (cluster_behind b) k (now (past last))
+  pub run-linked : (last : D) → Became given facts (setup_behind b) b.events k last
+      → IsLinked (setup_behind b) (cluster_behind b) k (now (facts.past last))
   run-linked last became =
-      kept-new readable empty honest given tells past faults (setup_behind b) k b.events last b.begins.groups
-      (all_new k)
+      kept-new readable empty honest given facts (setup_behind b) k b.events last b.begins.groups (all_new k)
       (shows last) (restarted s all left b k there)
       (λ image here. fair-images (setup_behind b) HasNoJunk AnyTaker k image (new_cluster (setup_behind b)) b.events
       (fair-run (setup_behind b) HasNoJunk AnyTaker b.lines clean (λ n. tt) (new_cluster (setup_behind b)) b.events b.allowed) here) became
 
-  pub run-disk : (last : D) × Became given tells past faults (setup_behind b) b.events k last
-      × IsLinked (setup_behind b) (cluster_behind b) k (now (past last))
+  pub run-disk : (last : D) × Became given facts (setup_behind b) b.events k last
+      × IsLinked (setup_behind b) (cluster_behind b) k (now (facts.past last))
   run-disk = by (b.disks.0 k there)
     where
-      by : (last : D) × Became given tells past faults (setup_behind b) b.events k last
-          → (last : D) × Became given tells past faults (setup_behind b) b.events k last
-          × IsLinked (setup_behind b) (cluster_behind b) k (now (past last))
+      by : (last : D) × Became given facts (setup_behind b) b.events k last
+          → (last : D) × Became given facts (setup_behind b) b.events k last
+          × IsLinked (setup_behind b) (cluster_behind b) k (now (facts.past last))
       by (last, became) = (last, became, run-linked last became)

@@ -1,6 +1,6 @@
 -- A broker goes on: it serves lines, and pumps.
 use Rattle.std.proofs.Common.{◌≡◌, ℕ, Bool, List, ◌++◌, ap, sym, subst, ◌∙◌}
-use Rattle.qq_disk.specs.Disk.{Disk}
+use Rattle.qq_disk.specs.Facts.{DiskFacts}
 use Rattle.qq_script_lines.specs.declared.line.ScriptLine.{ScriptLine}
 use Rattle.qq_script_lines.specs.declared.line.ScriptLine.TheVariants.{Pump}
 use Rattle.qq_cluster.specs.Cluster.{Cluster, ClusterEvent, Setup as ClusterSetup}
@@ -25,13 +25,12 @@ pub pump-line : (setup : ClusterSetup) (c : Cluster) (events : List ClusterEvent
 unfolding IsLine
 pump-line setup c events so = so
 
-module _ {D : Type 0} (given : Giving D) (tells : D → Bool) (past : D → List Disk) (faults : D → ℕ) (run : Run) where
+module _ {D : Type 0} (given : Giving D) (facts : DiskFacts D) (run : Run) where
   -- with other nodes, and another text, it still has its setup and its room
-  pub runs-on : (old new : Broker D) (later : Run) → Runs given tells past faults old run → new.setup ≡ old.setup
-      → new.room ≡ old.room → Holds given tells past faults old.setup new.nodes later
-      → Runs given tells past faults new later
+  pub runs-on : (old new : Broker D) (later : Run) → Runs given facts old run → new.setup ≡ old.setup
+      → new.room ≡ old.room → Holds given facts old.setup new.nodes later → Runs given facts new later
   runs-on old new later so same room holds =
-      subst (λ (b : Broker D). Runs given tells past faults b later) as-new (record {
+      subst (λ (b : Broker D). Runs given facts b later) as-new (record {
         may = so.may;
         holds = holds;
         empty = so.empty;
@@ -47,10 +46,10 @@ module _ {D : Type 0} (given : Giving D) (tells : D → Bool) (past : D → List
       }
 
   pub has-stepped : (old new : Broker D) (line : ScriptLine) (said : List ℕ) (before after : Takers)
-      (first later : Outcome) → Runs given tells past faults old run → new.setup ≡ old.setup → new.room ≡ old.room
+      (first later : Outcome) → Runs given facts old run → new.setup ≡ old.setup → new.room ≡ old.room
       → first ≡ told_of old before → said ≡ later.text → after ≡ later.takers
-      → IsServed given tells past faults old.setup run line new.nodes first later
-      → HasStepped given tells past faults old new run line said before after
+      → IsServed given facts old.setup run line new.nodes first later
+      → HasStepped given facts old new run line said before after
   has-stepped old new line said before after first later so same room start is seen sv = record {
     more = sv.more;
     allowed = sv.allowed;
@@ -63,14 +62,14 @@ module _ {D : Type 0} (given : Giving D) (tells : D → Bool) (past : D → List
   }
 
   pub has-pumped : (old new : Broker D) (before after : Takers) (first later : Outcome) (pumped : Pumped)
-      (idle : Bool) → Runs given tells past faults old run → new.setup ≡ old.setup → new.room ≡ old.room
+      (idle : Bool) → Runs given facts old run → new.setup ≡ old.setup → new.room ≡ old.room
       → first ≡ told_of old before → new.text.items ≡ later.text → after ≡ later.takers
-      → Served tells past faults IsPump old.nodes new.nodes first later → is_done pumped ≡ idle
-      → ((setup : ClusterSetup) (c : Cluster) → IsReached setup c → Stands tells past setup new.nodes c
+      → Served facts IsPump old.nodes new.nodes first later → is_done pumped ≡ idle
+      → ((setup : ClusterSetup) (c : Cluster) → IsReached setup c → Stands facts setup new.nodes c
       → idle ≡ is_idle setup c)
-      → HasPumped given tells past faults old new run before after pumped
+      → HasPumped given facts old new run before after pumped
   has-pumped old new before after first later pumped idle so same room start text seen pumps done quiet =
-      let sv = served given tells past faults old.setup run Pump IsPump old.nodes new.nodes first later so.holds
+      let sv = served given facts old.setup run Pump IsPump old.nodes new.nodes first later so.holds
       (λ events allowed. pump-line (setup_in old.setup run) _ events allowed) pumps in
       let next : Run = run_after run (run.events ++ sv.more) in
       record {
@@ -79,7 +78,7 @@ module _ {D : Type 0} (given : Giving D) (tells : D → Bool) (past : D → List
         disks = sv.disks;
         stands = (
           runs-on old new next so same room sv.stands,
-          done ∙ quiet (setup_in old.setup next) _ (reached given tells past faults old.setup next) sv.stands.stands,
+          done ∙ quiet (setup_in old.setup next) _ (reached given facts old.setup next) sv.stands.stands,
         );
         says = text ∙ sv.says
             ∙ ap (λ (o : Outcome). o.text ++ text_of (setup_in old.setup run) (cluster_in old.setup run) sv.more) start;

@@ -1,9 +1,9 @@
 -- How a fault ends a run.
-use Rattle.std.proofs.Common.{◌≡◌, ℕ, Bool, List, refl, sym, subst, inl, inr, arith}
+use Rattle.std.proofs.Common.{◌≡◌, ℕ, refl, sym, subst, inl, inr, arith}
 use Rattle.qq_base.specs.declared.memory.Memory.{Memory}
 use Rattle.qq_base.specs.declared.memory.Memory.TheVariants.{Spent, Want}
 use Rattle.qq_disk.specs.declared.image.Image.{Image}
-use Rattle.qq_disk.specs.Disk.{Disk}
+use Rattle.qq_disk.specs.Facts.{DiskFacts}
 use Rattle.qq_ports.specs.Yard.{IsYardCaused}
 use Rattle.qq_ports.specs.declared.yard_fault.YardFault.{YardFault}
 use Rattle.qq_ports.specs.declared.yard_fault.YardFault.TheVariants as yard_faults
@@ -67,22 +67,22 @@ refused-gone s number Yard (inr is) = absurd (omega (arith, is))
 refused-gone s number (Nodes fault) refused = absurd (nodes-refuse s fault refused)
 
 -- a yard makes no crash
-pub crash-caused : {D : Type 0} (given : Giving D) (tells : D → Bool) (past : D → List Disk) (faults : D → ℕ)
-    (before after : ℕ) (s : Setup) (run : Run) (number : ℕ) (which : Which) (image : Image) (fault : YardFault)
+pub crash-caused : {D : Type 0} (given : Giving D) (facts : DiskFacts D) (before after : ℕ) (s : Setup) (run : Run)
+    (number : ℕ) (which : Which) (image : Image) (fault : YardFault)
     (told : StepFault) → told ≡ crash_fault fault → IsYardCaused before after fault
-    → HasServeCause (Meets given tells past faults before after) (setup_in s run) run.events number
-    (Crash which image) (step_stop s number told)
-crash-caused given tells past faults before after s run number which image yard_faults.Failed told is rose =
+    → HasServeCause (Meets given facts before after) (setup_in s run) run.events number (Crash which image)
+    (step_stop s number told)
+crash-caused given facts before after s run number which image yard_faults.Failed told is rose =
     subst
-    (λ (f : StepFault). HasServeCause (Meets given tells past faults before after) (setup_in s run) run.events number
+    (λ (f : StepFault). HasServeCause (Meets given facts before after) (setup_in s run) run.events number
     (Crash which image) (step_stop s number f))
     (sym is) (inr (rose, refl))
-crash-caused given tells past faults before after s run number which image (yard_faults.Memory memory) told is want =
+crash-caused given facts before after s run number which image (yard_faults.Memory memory) told is want =
     subst
-    (λ (f : StepFault). HasServeCause (Meets given tells past faults before after) (setup_in s run) run.events number
+    (λ (f : StepFault). HasServeCause (Meets given facts before after) (setup_in s run) run.events number
     (Crash which image) (step_stop s number f))
     (sym is)
     (subst
-    (λ (m : Memory). HasServeCause (Meets given tells past faults before after) (setup_in s run) run.events number
+    (λ (m : Memory). HasServeCause (Meets given facts before after) (setup_in s run) run.events number
     (Crash which image) (memory_stop m))
     (sym want) tt)

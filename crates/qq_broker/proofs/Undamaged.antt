@@ -5,6 +5,7 @@ use Rattle.qq_base.proofs.Lists.{AllByRecursion-in}
 use Rattle.qq_base.specs.declared.ids.QueueId.{QueueId}
 use Rattle.qq_disk.specs.declared.name.FileName.{FileName}
 use Rattle.qq_disk.specs.Disk.{Disk, now}
+use Rattle.qq_disk.specs.Facts.{DiskFacts}
 use Rattle.qq_log.specs.declared.op.Op.{Op}
 use Rattle.qq_log.specs.Stable.{Stable, new_state, stable}
 use Rattle.qq_lots.specs.Left.{AllBetween, IsBetween, ops_found, state_in}
@@ -61,79 +62,77 @@ damage-version _ number byte is = absurd cc
 abbrev read_of : {D : Type 0} → (D → List Disk) → Setup → ℕ → D → Answer Lanes
 read_of past setup k disk = lanes_read (ids_of (lot_of setup k)) (shown (now (past disk)))
 
-module _ {D : Type 0} (given : Giving D) (tells : D → Bool) (past : D → List Disk) (faults : D → ℕ) (setup : Setup)
-    (events : List ClusterEvent) (k : ℕ) (shows : (disk : D) → IsTrue (tells disk)) where
-  pub broken-place : (number place : ℕ) → IsBroken given tells past faults setup events k (AtPlace number place)
-      → (last : D) × ((file : FileName) × Became given tells past faults setup events k last
-      × (file.number ≡ number) × (read_of past setup k last ≡ Err (recover_faults.Damaged file place)))
+module _ {D : Type 0} (given : Giving D) (facts : DiskFacts D) (setup : Setup) (events : List ClusterEvent) (k : ℕ)
+    (shows : (disk : D) → IsTrue (facts.tells disk)) where
+  pub broken-place : (number place : ℕ) → IsBroken given facts setup events k (AtPlace number place)
+      → (last : D) × ((file : FileName) × Became given facts setup events k last
+      × (file.number ≡ number) × (read_of facts.past setup k last ≡ Err (recover_faults.Damaged file place)))
   broken-place number place b = by (damage-place b.fault number place b.is)
     where
       by : (file : FileName) × (file.number ≡ number) × (b.fault ≡ recover_faults.Damaged file place)
-          → (last : D) × ((file : FileName) × Became given tells past faults setup events k last
-          × (file.number ≡ number) × (read_of past setup k last ≡ Err (recover_faults.Damaged file place)))
+          → (last : D) × ((file : FileName) × Became given facts setup events k last
+          × (file.number ≡ number) × (read_of facts.past setup k last ≡ Err (recover_faults.Damaged file place)))
       by (file, same, is) =
           (b.last, (file, b.became, same, b.read (shows b.last) ∙ ap (λ (f : RecoverFault). Err f) is))
 
-  pub broken-version : (number byte : ℕ) → IsBroken given tells past faults setup events k (OfVersion number byte)
-      → (last : D) × ((file : FileName) × Became given tells past faults setup events k last
-      × (file.number ≡ number) × (read_of past setup k last ≡ Err (recover_faults.Version file byte)))
+  pub broken-version : (number byte : ℕ) → IsBroken given facts setup events k (OfVersion number byte)
+      → (last : D) × ((file : FileName) × Became given facts setup events k last
+      × (file.number ≡ number) × (read_of facts.past setup k last ≡ Err (recover_faults.Version file byte)))
   broken-version number byte b = by (damage-version b.fault number byte b.is)
     where
       by : (file : FileName) × (file.number ≡ number) × (b.fault ≡ recover_faults.Version file byte)
-          → (last : D) × ((file : FileName) × Became given tells past faults setup events k last
-          × (file.number ≡ number) × (read_of past setup k last ≡ Err (recover_faults.Version file byte)))
+          → (last : D) × ((file : FileName) × Became given facts setup events k last
+          × (file.number ≡ number) × (read_of facts.past setup k last ≡ Err (recover_faults.Version file byte)))
       by (file, same, is) =
           (b.last, (file, b.became, same, b.read (shows b.last) ∙ ap (λ (f : RecoverFault). Err f) is))
 
-  pub queue-read : (place : ℕ) (lane : Stable) → HoldsQueue given tells past faults setup events k place lane
-      → (last : D) × ((lanes : Lanes) × Became given tells past faults setup events k last
-      × (read_of past setup k last ≡ Ok lanes) × (lane ≡ state_in lanes (setup.args place).queue))
+  pub queue-read : (place : ℕ) (lane : Stable) → HoldsQueue given facts setup events k place lane
+      → (last : D) × ((lanes : Lanes) × Became given facts setup events k last
+      × (read_of facts.past setup k last ≡ Ok lanes) × (lane ≡ state_in lanes (setup.args place).queue))
   queue-read place lane h = by (h.read (shows h.last))
     where
-      by : (lanes : Lanes) × (read_of past setup k h.last ≡ Ok lanes) × (lane ≡ state_in lanes (setup.args place).queue)
-          → (last : D) × ((lanes : Lanes) × Became given tells past faults setup events k last
-          × (read_of past setup k last ≡ Ok lanes) × (lane ≡ state_in lanes (setup.args place).queue))
+      by : (lanes : Lanes) × (read_of facts.past setup k h.last ≡ Ok lanes)
+          × (lane ≡ state_in lanes (setup.args place).queue)
+          → (last : D) × ((lanes : Lanes) × Became given facts setup events k last
+          × (read_of facts.past setup k last ≡ Ok lanes) × (lane ≡ state_in lanes (setup.args place).queue))
       by (lanes, read, is) = (h.last, (lanes, h.became, read, is))
 
 -- ---- without junk
 
 module _ (readable : IsReadWherePromised) (empty : IsEmptyPromised) (honest : IsHonestWithoutJunk) {D : Type 0}
-    (given : Giving D) (tells : D → Bool) (past : D → List Disk) (faults : D → ℕ) (setup : Setup)
-    (events : List ClusterEvent) (k : ℕ) (all_new : AreNew given tells past k) (shows : (disk : D)
-    → IsTrue (tells disk)) where
+    (given : Giving D) (facts : DiskFacts D) (setup : Setup) (events : List ClusterEvent) (k : ℕ)
+    (all_new : AreNew given facts k) (shows : (disk : D) → IsTrue (facts.tells disk)) where
   abbrev BecameSo : D → Type 0
-  BecameSo last = Became given tells past faults setup events k last
+  BecameSo last = Became given facts setup events k last
 
   abbrev Ids : List QueueId
   Ids = ids_of (lot_of setup k)
 
   -- before the first restart the disk is a new one
   new-read : (disk : D) (b : BecameSo disk) → (first_restart k events ≡ None → disk ≡ b.first)
-      → first_restart k events ≡ None → IsReadable Ids [] [] (now (past disk))
+      → first_restart k events ≡ None → IsReadable Ids [] [] (now (facts.past disk))
   new-read disk b as_given unseen =
-      subst (λ (d : D). IsReadable Ids [] [] (now (past d))) (sym (as_given unseen))
-      (readable Ids [] [] (now (past b.first))
-      (new-keeps readable empty given tells past faults setup k b.first
-      (all_new b.first b.given_is (shows b.first))))
+      subst (λ (d : D). IsReadable Ids [] [] (now (facts.past d))) (sym (as_given unseen))
+      (readable Ids [] [] (now (facts.past b.first))
+      (new-keeps readable empty given facts setup k b.first (all_new b.first b.given_is (shows b.first))))
 
   linked : (disk : D) → HasGroups setup → is_some (first_restart k events) ≡ true → HasNoJunks k events → BecameSo disk
-      → IsLinked setup (cluster_after (new_cluster setup) events) k (now (past disk))
+      → IsLinked setup (cluster_after (new_cluster setup) events) k (now (facts.past disk))
   linked disk groups some clean b =
-      kept-new readable empty honest given tells past faults setup k events disk groups all_new (shows disk) some
-      clean b
+      kept-new readable empty honest given facts setup k events disk groups all_new (shows disk) some clean b
 
   refuses : {A : Type 0} (disk : D) (noticed ops : List Op) (fault : RecoverFault)
-      → IsReadable Ids noticed ops (now (past disk)) → read_of past setup k disk ≡ Err fault → A
+      → IsReadable Ids noticed ops (now (facts.past disk)) → read_of facts.past setup k disk ≡ Err fault → A
   refuses disk noticed ops fault so read = absurd (let e : Ok so.lanes ≡ Err fault = sym so.read ∙ read in cc)
 
   -- before the first restart no file breaks a rule, and none does later
   pub first-whole : (damage : Damage) → first_restart k events ≡ None
-      → IsBroken given tells past faults setup events k damage → ⊥
+      → IsBroken given facts setup events k damage → ⊥
   first-whole damage unseen b =
       refuses b.last [] [] b.fault (new-read b.last b.became b.as_given unseen) (b.read (shows b.last))
 
   pub not-broken : (damage : Damage) → HasGroups setup → HasNoJunks k events
-      → IsBroken given tells past faults setup events k damage → ⊥
+      → IsBroken given facts setup events k damage → ⊥
   not-broken damage groups clean b = by (first_restart k events) refl
     where
       by : (o : Option Bool) → first_restart k events ≡ o → ⊥
@@ -141,20 +140,22 @@ module _ (readable : IsReadWherePromised) (empty : IsEmptyPromised) (honest : Is
       by (Some up) seen =
           let promised = (linked b.last groups (ap is_some seen) clean b.became).promised in
           refuses b.last promised.noticed promised.given b.fault
-          (readable Ids promised.noticed promised.given (now (past b.last)) promised.promise) (b.read (shows b.last))
+          (readable Ids promised.noticed promised.given (now (facts.past b.last)) promised.promise)
+          (b.read (shows b.last))
 
   -- nothing is found of a queue on a new disk
   pub nothing-found : (place : ℕ) (lane : Stable) → first_restart k events ≡ None
-      → HoldsQueue given tells past faults setup events k place lane → lane ≡ new_state
+      → HoldsQueue given facts setup events k place lane → lane ≡ new_state
   nothing-found place lane unseen h = by (h.read (shows h.last))
     where
-      by : (lanes : Lanes) × (read_of past setup k h.last ≡ Ok lanes) × (lane ≡ state_in lanes (setup.args place).queue)
+      by : (lanes : Lanes) × (read_of facts.past setup k h.last ≡ Ok lanes)
+          × (lane ≡ state_in lanes (setup.args place).queue)
           → lane ≡ new_state
       by (lanes, read, is) =
-          let first : read_of past setup k h.became.first ≡ Ok lanes =
-          subst (λ (d : D). read_of past setup k d ≡ Ok lanes) (h.as_given unseen) read in
+          let first : read_of facts.past setup k h.became.first ≡ Ok lanes =
+          subst (λ (d : D). read_of facts.past setup k d ≡ Ok lanes) (h.as_given unseen) read in
           is ∙ ap (λ (o : Option Stable). unwrap_or o new_state)
-          (nothing-read readable empty Ids (past h.became.first) lanes
+          (nothing-read readable empty Ids (facts.past h.became.first) lanes
           (all_new h.became.first h.became.given_is (shows h.became.first)) first
           (setup.args place).queue.0)
 
@@ -170,16 +171,16 @@ module _ (readable : IsReadWherePromised) (empty : IsEmptyPromised) (honest : Is
   pub takes-found : (place : ℕ) (lane : Stable) → HasGroups setup → is_some (first_restart k events) ≡ true
       → HasNoJunks k events → (cluster_after (new_cluster setup) events).up k ≡ false
       → MembersFollow setup (cluster_after (new_cluster setup) events) k → In place (lot_of setup k).places
-      → HoldsQueue given tells past faults setup events k place lane
+      → HoldsQueue given facts setup events k place lane
       → (may_restart k lane.op ((cluster_after (new_cluster setup) events).queue place).group ≡ true)
       × (stable (take lane.op (((cluster_after (new_cluster setup) events).queue place).group.seat k).ops) ≡ Some lane)
   takes-found place lane groups some clean down follow on h = by (h.read (shows h.last))
     where
-      by : (lanes : Lanes) × (read_of past setup k h.last ≡ Ok lanes)
+      by : (lanes : Lanes) × (read_of facts.past setup k h.last ≡ Ok lanes)
           × (lane ≡ state_in lanes (setup.args place).queue) → May place lane
       by (lanes, read, is) =
           let promised = (linked h.last groups some clean h.became).promised in
-          let so = readable Ids promised.noticed promised.given (now (past h.last)) promised.promise in
+          let so = readable Ids promised.noticed promised.given (now (facts.past h.last)) promised.promise in
           let same : so.recovers.lanes ≡ lanes =
           let e : Ok so.lanes ≡ Ok lanes = sym so.read ∙ read in
           let f : Some so.lanes ≡ Some so.recovers.lanes = so.recovers.is in cc in

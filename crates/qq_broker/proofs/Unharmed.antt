@@ -1,12 +1,12 @@
 -- A run without a root whose lines name images without junk meets no damage, and loses nothing.
-use Rattle.std.proofs.Common.{◌≡◌, ◌≤◌, ◌+◌, ℕ, zero, suc, Bool, true, List, [], ◌∷◌, ◌++◌, Option, Some, None, refl, sym, ap, inl, inr, arith}
+use Rattle.std.proofs.Common.{◌≡◌, ◌≤◌, ◌+◌, ℕ, zero, suc, true, List, [], ◌∷◌, ◌++◌, Option, Some, None, refl, sym, ap, inl, inr, arith}
 use Rattle.std.specs.Prelude.{IsTrue, is_some}
 use Rattle.std.specs.List.{range_with_len}
 use Rattle.qq_base.proofs.Lists.{In-map}
 use Rattle.qq_base.specs.declared.ids.NodeId.{NodeId}
 use Rattle.qq_defs.specs.Runnable.{IsRunnable}
 use Rattle.qq_disk.specs.declared.image.Image.{Image}
-use Rattle.qq_disk.specs.Disk.{Disk}
+use Rattle.qq_disk.specs.Facts.{DiskFacts}
 use Rattle.qq_log.specs.Stable.{Stable, new_state}
 use Rattle.qq_model.proofs.Soundness.{in_contains}
 use Rattle.qq_raft_model.specs.Group.{has_node}
@@ -65,11 +65,11 @@ pub record Known : Type 0 where
   pub comes : Comes
   pub begins : (s : Setup) → IsRunnable (state_of s) → HasGroups (cluster_setup s)
 
-module _ (law : Known) {D : Type 0} (given : Giving D) (tells : D → Bool) (past : D → List Disk) (faults : D → ℕ)
-    (first : Takers) (before after : ℕ) (s : Setup) (runs : IsRunnable (state_of s)) (all_new : (k : ℕ) → AreNew given tells past k)
-    (shows : (disk : D) → IsTrue (tells disk)) where
+module _ (law : Known) {D : Type 0} (given : Giving D) (facts : DiskFacts D) (first : Takers) (before after : ℕ)
+    (s : Setup) (runs : IsRunnable (state_of s)) (all_new : (k : ℕ) → AreNew given facts k)
+    (shows : (disk : D) → IsTrue (facts.tells disk)) where
   abbrev Met : Trouble → Type 0
-  Met trouble = RunMeets given tells past faults first before after trouble
+  Met trouble = RunMeets given facts first before after trouble
 
   -- ---- the opening
 
@@ -78,7 +78,7 @@ module _ (law : Known) {D : Type 0} (given : Giving D) (tells : D → Bool) (pas
   opens-whole logs ending so =
       let S : ClusterSetup = cluster_over s logs in
       let apart = range-apart 1 s.nodes so.at.before so.at.node so.at.later so.at.are in
-      first-whole law.readable law.empty law.honest given tells past faults S so.at.early so.at.node
+      first-whole law.readable law.empty law.honest given facts S so.at.early so.at.node
       (all_new so.at.node) shows so.damage
       (no-restart so.at.node so.at.early
       (restarts-unseen S so.at.node so.at.before (new_cluster S) so.at.early apart.1 so.at.restarted)) so.broken
@@ -94,13 +94,13 @@ module _ (law : Known) {D : Type 0} (given : Giving D) (tells : D → Bool) (pas
       by k None failed = refl
       by k (Some lane) found =
           ap (λ (state : Stable). Some (record state { snapshot = 0 }))
-          (sym (nothing-found law.readable law.empty law.honest given tells past faults (cluster_setup s) [] k
+          (sym (nothing-found law.readable law.empty law.honest given facts (cluster_setup s) [] k
           (all_new k) shows so.place
           lane refl found))
 
   -- ---- after some lines
 
-  module _ (all left : List Input) (b : Behind (RunHad given tells past faults first) s all left)
+  module _ (all left : List Input) (b : Behind (RunHad given facts first) s all left)
       (clean : (nodes : Nodes) (image : Image) → In (lines.Crash nodes image) b.lines → HasNoJunk image) where
     abbrev S : ClusterSetup
     S = setup_behind b
@@ -116,8 +116,8 @@ module _ (law : Known) {D : Type 0} (given : Giving D) (tells : D → Bool) (pas
     pub stays-whole : (nodes : List ℕ) (ending : Ending) → EndsDamaged Met S nodes b.events ending → ⊥
     stays-whole nodes ending so =
         let events : List ClusterEvent = b.events ++ so.at.early in
-        not-broken law.readable law.empty law.honest given tells past faults S events so.at.node (all_new so.at.node)
-        shows so.damage
+        not-broken law.readable law.empty law.honest given facts S events so.at.node (all_new so.at.node) shows
+        so.damage
         b.begins.groups
         (λ image there. fair-images S HasNoJunk AnyTaker so.at.node image (new_cluster S) events
         (fair-early so.at.before so.at.early so.at.restarted) there) so.broken
@@ -139,8 +139,7 @@ module _ (law : Known) {D : Type 0} (given : Giving D) (tells : D → Bool) (pas
         follow-all law.comes S b.begins.groups k HasNoJunk AnyTaker (new_cluster S) events ([], refl) fair
         (new-follow S k b.begins.groups) in
         so.refused
-        (takes-found law.readable law.empty law.honest given tells past faults S events k (all_new k) shows so.place
-        so.lane
+        (takes-found law.readable law.empty law.honest given facts S events k (all_new k) shows so.place so.lane
         b.begins.groups some (λ image here. fair-images S HasNoJunk AnyTaker k image (new_cluster S) events fair here)
         so.at.down follow
         there.1 so.found)

@@ -12,6 +12,7 @@ use Rattle.qq_base.specs.declared.ids.NodeId.{NodeId}
 use Rattle.qq_base.specs.declared.ids.QueueId.{QueueId}
 use Rattle.qq_base.specs.declared.memory.Memory.TheVariants.{Spent, Want}
 use Rattle.qq_disk.specs.Disk.{Disk, now}
+use Rattle.qq_disk.specs.Facts.{DiskFacts}
 use Rattle.qq_log.specs.declared.op.Op.{Op}
 use Rattle.qq_log.specs.Stable.{stable}
 use Rattle.qq_lots.specs.Left.{state_in}
@@ -94,68 +95,67 @@ in-members k (n ∷ nodes) among = by (nat_eq n.0 k) refl among (in-members k no
     by false other so rest = inr (rest so)
 
 -- a count of 64 bits that rose is some disk's
-rose-disk : {D : Type 0} (tells : D → Bool) (past : D → List Disk) (faults : D → ℕ) (held : Nodes D) (k n : ℕ)
-    → Rose n (seen tells past faults held k).faults
-    → (last : D) × (seen tells past faults held k ≡ seen_of tells past faults last)
-rose-disk {D} tells past faults held k n rose = by (node_at k held.nodes.items) refl rose
+rose-disk : {D : Type 0} (facts : DiskFacts D) (held : Nodes D) (k n : ℕ) → Rose n (seen facts held k).faults
+    → (last : D) × (seen facts held k ≡ seen_of facts last)
+rose-disk {D} facts held k n rose = by (node_at k held.nodes.items) refl rose
   where
     at-zero : Rose n 0 → ⊥
     at-zero (inl less) = omega (arith, less)
     at-zero (inr end) = absurd (omega (arith, end))
 
-    of-log : (o : Option (NodeLog D)) → Rose n (seen_log tells past faults o).faults
-        → (last : D) × (seen_log tells past faults o ≡ seen_of tells past faults last)
+    of-log : (o : Option (NodeLog D)) → Rose n (seen_log facts o).faults
+        → (last : D) × (seen_log facts o ≡ seen_of facts last)
     of-log None so = absurd (at-zero so)
     of-log (Some own) so = (disk_in own, refl)
 
-    by : (o : Option (Node D)) → node_at k held.nodes.items ≡ o → Rose n (seen tells past faults held k).faults
-        → (last : D) × (seen tells past faults held k ≡ seen_of tells past faults last)
+    by : (o : Option (Node D)) → node_at k held.nodes.items ≡ o → Rose n (seen facts held k).faults
+        → (last : D) × (seen facts held k ≡ seen_of facts last)
     by None is so =
-        absurd (at-zero (subst (λ (p : Option (Node D)). Rose n (seen_in tells past faults p).faults) is so))
+        absurd (at-zero (subst (λ (p : Option (Node D)). Rose n (seen_in facts p).faults) is so))
     by (Some node) is so =
-        let found = of-log node.log (subst (λ (p : Option (Node D)). Rose n (seen_in tells past faults p).faults) is so) in
-        (found.0, ap (seen_in tells past faults) is ∙ found.1)
+        let found = of-log node.log (subst (λ (p : Option (Node D)). Rose n (seen_in facts p).faults) is so) in
+        (found.0, ap (seen_in facts) is ∙ found.1)
 
-module _ {D : Type 0} (given : Giving D) (tells : D → Bool) (past : D → List Disk) (faults : D → ℕ) (s : Setup)
-    (may : MayRun s) (begins : HasGroups (cluster_setup s)) (old new : Nodes D)
-    (u : AreUnopened given tells past faults s old) (before after : ℕ) where
+module _ {D : Type 0} (given : Giving D) (facts : DiskFacts D) (s : Setup) (may : MayRun s)
+    (begins : HasGroups (cluster_setup s)) (old new : Nodes D)
+    (u : AreUnopened given facts s old) (before after : ℕ) where
   abbrev Met : Trouble → Type 0
-  Met = Meets given tells past faults before after
+  Met = Meets given facts before after
 
   abbrev See : Nodes D → ℕ → Seen
-  See held = seen tells past faults held
+  See held = seen facts held
 
   abbrev Disk-of : ℕ → Type 0
-  Disk-of k = (disk : D) × IsDiskOf tells past faults old k disk × IsGiven given tells past k disk
+  Disk-of k = (disk : D) × IsDiskOf facts old k disk × IsGiven given facts k disk
 
   own : (k : ℕ) → In k (range_with_len 1 s.nodes) → Disk-of k
-  own k there = own-disk given tells past faults s may begins old u k there
+  own k there = own-disk given facts s may begins old u k there
 
   -- of a node to which nothing has happened the disk is as it was given
-  became-none : (setup : ClusterSetup) (events : List ClusterEvent) (k : ℕ) → (disk : D) → IsGiven given tells past k disk
+  became-none : (setup : ClusterSetup) (events : List ClusterEvent) (k : ℕ) → (disk : D) → IsGiven given facts k disk
       → (unseen : AllByRecursion (λ (e : ClusterEvent). sees k e ≡ false) events)
-      → Became given tells past faults setup events k disk
+      → Became given facts setup events k disk
   became-none setup events k disk is unseen = record {
     first = disk;
     given_is = is;
-    begins = subst (BeginsBy tells past setup k disk) (sym (no-restart k events unseen)) tt;
-    lives = goes-on given tells past faults setup k (new_cluster setup) events disk disk (no-crash k events unseen)
-        (same-disk tells past faults setup k (new_cluster setup) events disk unseen) (new_cluster setup) [] disk refl
-        (one-none tells past faults setup k (new_cluster setup) disk);
+    begins = subst (BeginsBy facts setup k disk) (sym (no-restart k events unseen)) tt;
+    lives = goes-on given facts setup k (new_cluster setup) events disk disk (no-crash k events unseen)
+        (same-disk facts setup k (new_cluster setup) events disk unseen) (new_cluster setup) [] disk refl
+        (one-none facts setup k (new_cluster setup) disk);
   }
 
   -- ---- a node's files break the rules
 
   refused-at : (node : ℕ) (fault : RecoverFault) (damage : Damage) → damage_of fault ≡ Some damage
-      → IsRefusedOver tells past faults s.queues old new node fault → MayNotOpen Met s (damage_ending node damage)
+      → IsRefusedOver facts s.queues old new node fault → MayNotOpen Met s (damage_ending node damage)
   unfolding became-none own
   refused-at node fault damage is so =
       let logs : Logs = so.hold.logs in
       let setup : ClusterSetup = cluster_over s logs in
-      let with' = held-with given tells past faults s may begins old u so.first new so.hold in
+      let with' = held-with given facts s may begins old u so.first new so.hold in
       let stops = so.stops setup with' in
       let are : range_with_len 1 s.nodes ≡ so.first ++ node ∷ so.later =
-      sym (nodes-are given tells past faults s may begins old u) ∙ so.are in
+      sym (nodes-are given facts s may begins old u) ∙ so.are in
       let there : In node (range_with_len 1 s.nodes) =
       subst (In node) (sym are) (in-list node so.first so.later) in
       let disk = own node there in
@@ -181,9 +181,8 @@ module _ {D : Type 0} (given : Giving D) (tells : D → Bool) (past : D → List
             fault = fault;
             is = is;
             read = λ tell.
-                ap (λ (ids : List QueueId). lanes_read ids (shown (now (past disk.0))))
-                (sym (ids-on given tells past faults s may begins old u logs with' node))
-                ∙ as-read given tells past faults s may begins old u
+                ap (λ (ids : List QueueId). lanes_read ids (shown (now (facts.past disk.0))))
+                (sym (ids-on given facts s may begins old u logs with' node)) ∙ as-read given facts s may begins old u
                 (λ (p : List Disk). lanes_read (ids_on s.queues node) (shown (now p)) ≡ Err fault) node disk.0 disk.1
                 so.read tell;
           };
@@ -196,35 +195,33 @@ module _ {D : Type 0} (given : Giving D) (tells : D → Bool) (past : D → List
   module _ (told : (k : ℕ) → (See new k).tells ≡ (See old k).tells) where
     -- what is read of a queue on a node, or the disk has failed
     read-of : (place k : ℕ) (lanes : Option Lanes) → In k (range_with_len 1 s.nodes)
-        → IsReadAs tells past faults s.queues old new k lanes
-        → IsReadOf Met (cluster_setup s) k place
+        → IsReadAs facts s.queues old new k lanes → IsReadOf Met (cluster_setup s) k place
         (option_map (λ (l : Lanes). state_in l ((cluster_setup s).args place).queue) lanes)
     unfolding became-none own
     read-of place k None there failed =
         let disk = own k there in
-        let last = rose-disk tells past faults new k (See old k).faults failed in
+        let last = rose-disk facts new k (See old k).faults failed in
         record {
           first = disk.0;
           given_is = disk.2;
           last = last.0;
           told = ap (λ (v : Seen). v.tells) (sym last.1) ∙ told k ∙ ap (λ (v : Seen). v.tells) disk.1;
-          rose = subst (λ (n : ℕ). Rose n (faults last.0)) (ap (λ (v : Seen). v.faults) disk.1)
+          rose = subst (λ (n : ℕ). Rose n (facts.faults last.0)) (ap (λ (v : Seen). v.faults) disk.1)
               (subst (λ (n : ℕ). Rose (See old k).faults n) (ap (λ (v : Seen). v.faults) last.1) failed);
         }
     read-of place k (Some l) there read =
         let disk = own k there in
         let with' = is-with s may new_logs begins
         (record { own = λ p j. tt; others = λ p none j. refl }) (length old.nodes.items)
-        (count-is given tells past faults s may begins old u) in
+        (count-is given facts s may begins old u) in
         record {
           last = disk.0;
           became = became-none (cluster_setup s) [] k disk.0 disk.2 tt;
           as_given = λ none. refl;
           read = λ tell. (
             l,
-            ap (λ (ids : List QueueId). lanes_read ids (shown (now (past disk.0))))
-                (sym (ids-on given tells past faults s may begins old u new_logs with' k))
-                ∙ as-read given tells past faults s may begins old u
+            ap (λ (ids : List QueueId). lanes_read ids (shown (now (facts.past disk.0))))
+                (sym (ids-on given facts s may begins old u new_logs with' k)) ∙ as-read given facts s may begins old u
                 (λ (p : List Disk). lanes_read (ids_on s.queues k) (shown (now p)) ≡ Ok l) k disk.0 disk.1 read tell,
             refl,
           );
@@ -255,7 +252,7 @@ module _ {D : Type 0} (given : Giving D) (tells : D → Bool) (past : D → List
             subst (λ (l : ℕ → List Op). AllByRecursion (IsChangeOf (record { 0 = p })) (l k))
             (sym (put-other place logs new_logs p (λ same. other (sym same)))) tt
 
-    lost-at : (node : NodeId) (queue : QueueId) (found : ℕ) → IsLostOver tells past faults s.queues old new node queue found
+    lost-at : (node : NodeId) (queue : QueueId) (found : ℕ) → IsLostOver facts s.queues old new node queue found
         → EndsUnsupported Met s (lost node.0 (name_by (row_at s.queues queue.0)) 0 found)
     unfolding only-at put
     lost-at node queue found so = record {
@@ -263,7 +260,7 @@ module _ {D : Type 0} (given : Giving D) (tells : D → Bool) (past : D → List
       among = Contains-in queue.0 (cluster_setup s).places there;
       first = so.first;
       rest = so.later;
-      are = sym (nodes-are given tells past faults s may begins old u) ∙ so.are;
+      are = sym (nodes-are given facts s may begins old u) ∙ so.are;
       lanes = λ k. option_map (λ (l : Lanes). state_in l queue) (so.read.lanes k);
       read = λ n member first.
           subst (IsReadOf Met (cluster_setup s) n.0 queue.0)
@@ -274,8 +271,7 @@ module _ {D : Type 0} (given : Giving D) (tells : D → Bool) (past : D → List
           so.refused (only-at queue.0 (logs queue.0)) (cluster_over s (only-at queue.0 (logs queue.0)))
           (is-with s may (only-at queue.0 (logs queue.0)) begins
           (only-apart queue.0 (logs queue.0) (subst (In queue.0) places-are there) own') (length old.nodes.items)
-          (count-is given tells past faults s may begins old u))
-          (λ k first among'.
+          (count-is given facts s may begins old u)) (λ k first among'.
           ap (λ (l : ℕ → List Op). stable (l k)) (put-same queue.0 (logs queue.0) new_logs)
           ∙ hold (record { 0 = k }) (is-there k among') (Contains-in k so.first first)
           ∙ ap Some (states k (so.read.lanes k)))
@@ -291,7 +287,7 @@ module _ {D : Type 0} (given : Giving D) (tells : D → Bool) (past : D → List
       where
         with'' : IsSetupWith (cluster_setup s) s.queues (length old.nodes.items) new_logs
         with'' = is-with s may new_logs begins (record { own = λ p j. tt; others = λ p none j. refl })
-            (length old.nodes.items) (count-is given tells past faults s may begins old u)
+            (length old.nodes.items) (count-is given facts s may begins old u)
 
         at-index : queue.0 - 1 + 1 ≡ queue.0
         at-index = omega (arith, so.low)
@@ -311,7 +307,7 @@ module _ {D : Type 0} (given : Giving D) (tells : D → Bool) (past : D → List
 
         in-all : (k : ℕ) → In k so.first → In k (range_with_len 1 s.nodes)
         in-all k first =
-            subst (In k) (sym (sym (nodes-are given tells past faults s may begins old u) ∙ so.are))
+            subst (In k) (sym (sym (nodes-are given facts s may begins old u) ∙ so.are))
             (in-first k so.first so.later first)
 
         is-there : (k : ℕ) → is_among k so.row.members ≡ true → Contains (members (cluster_setup s) queue.0) (record { 0 = k })
@@ -328,9 +324,9 @@ module _ {D : Type 0} (given : Giving D) (tells : D → Bool) (past : D → List
 
   spent-in : (logs : Logs) → IsSetupWith (cluster_over s logs) s.queues (length old.nodes.items) logs
       → (number : ℕ)
-      → (e : EndsAt tells past faults (cluster_over s logs) (IsOpening (cluster_over s logs)) old
+      → (e : EndsAt facts (cluster_over s logs) (IsOpening (cluster_over s logs)) old
       (new_cluster (cluster_over s logs)) number)
-      → ((k : ℕ) (there : In k (range_with_len 1 s.nodes)) → BeginsBy tells past (cluster_over s logs) k (own k there).0
+      → ((k : ℕ) (there : In k (range_with_len 1 s.nodes)) → BeginsBy facts (cluster_over s logs) k (own k there).0
       (first_restart k e.serves.did.events))
       → EndsSpent Met (cluster_over s logs) (IsOpening (cluster_over s logs)) [] (spent number)
   unfolding own
@@ -347,12 +343,12 @@ module _ {D : Type 0} (given : Giving D) (tells : D → Bool) (past : D → List
           held = e.mid;
           stands = e.serves.did.stands;
           disks = λ k there.
-              (let last = disk-there given tells past faults S e.mid (cluster_after (new_cluster S) early)
+              (let last = disk-there given facts S e.mid (cluster_after (new_cluster S) early)
               e.serves.did.stands k there in (
                 last.0,
                 last.1,
-                became-first given tells past faults s may begins old u logs with' (Begins (IsOpening S) (new_cluster S))
-                    (Stands tells past S e.mid) e.mid e.before e.said e.serves
+                became-first given facts s may begins old u logs with' (Begins (IsOpening S) (new_cluster S))
+                    (Stands facts S e.mid) e.mid e.before e.said e.serves
                     (λ j. (let few = opening-once j S s.nodes refl (new_cluster S) (early ++ rest) e.serves.did.means.allowed in
                     omega (arith, failures-both j early rest, few))) k there last.0 last.1 (begun k there),
               ));
@@ -361,50 +357,50 @@ module _ {D : Type 0} (given : Giving D) (tells : D → Bool) (past : D → List
         is = refl;
       }
 
-  spent-open : (number : ℕ) → SpentOver tells past faults s.queues old new number → MayNotOpen Met s (spent number)
+  spent-open : (number : ℕ) → SpentOver facts s.queues old new number → MayNotOpen Met s (spent number)
   spent-open number (inl first) =
       let with' = is-with s may new_logs begins (record { own = λ p j. tt; others = λ p none j. refl })
-      (length old.nodes.items) (count-is given tells past faults s may begins old u) in
+      (length old.nodes.items) (count-is given facts s may begins old u) in
       let so = first new_logs (cluster_setup s) with' begins in
       inr (
         new_logs,
         inr (inr (inr (spent-in new_logs with' number so.0
-            (λ k there. subst (λ (events : List ClusterEvent). BeginsBy tells past (cluster_setup s) k (own k there).0
+            (λ k there. subst (λ (events : List ClusterEvent). BeginsBy facts (cluster_setup s) k (own k there).0
             (first_restart k events)) (sym so.1) tt)))),
       )
   spent-open number (inr after') =
       let logs : Logs = after'.hold.logs in
       let setup : ClusterSetup = cluster_over s logs in
-      let with' = held-with given tells past faults s may begins old u (all_of old) new after'.hold in
+      let with' = held-with given facts s may begins old u (all_of old) new after'.hold in
       let so = after'.ends setup with' in
       inr (
         logs,
         inr (inr (inr (spent-in logs with' number so.1
-            (λ k there. begins-read given tells past faults s may begins old u logs with' (all_of old) new
-            after'.hold.read.lanes after'.hold.read.each after'.hold.are k
-            (subst (In k) (sym (nodes-are given tells past faults s may begins old u)) there) (own k there).0 (own k there).1
+            (λ k there. begins-read given facts s may begins old u logs with' (all_of old) new after'.hold.read.lanes
+            after'.hold.read.each after'.hold.are k
+            (subst (In k) (sym (nodes-are given facts s may begins old u)) there) (own k there).0 (own k there).1
             (first_restart k so.1.serves.did.events)
-            (so.2 k (subst (In k) (sym (nodes-are given tells past faults s may begins old u)) there)))))),
+            (so.2 k (subst (In k) (sym (nodes-are given facts s may begins old u)) there)))))),
       )
 
   -- ---- all of them
 
   pub not-opened : (fault : RestartFault) (stop : AskStop) → IsStopOf s fault stop
-      → NodesMayNotOpen tells past faults s.queues old new fault → MayNotOpen Met s (ending_of (stop_of stop))
+      → NodesMayNotOpen facts s.queues old new fault → MayNotOpen Met s (ending_of (stop_of stop))
   not-opened fault stop is so = by fault is so.cause
     where
       with'' : IsSetupWith (cluster_setup s) s.queues (length old.nodes.items) new_logs
       with'' = is-with s may new_logs begins (record { own = λ p j. tt; others = λ p none j. refl })
-          (length old.nodes.items) (count-is given tells past faults s may begins old u)
+          (length old.nodes.items) (count-is given facts s may begins old u)
 
       told : (k : ℕ) → (See new k).tells ≡ (See old k).tells
       told k = elim so.gives_up [
         | inl any ↦ (any new_logs (cluster_setup s) with'').told k
         | inr (hold, of) ↦
-            (of (cluster_over s hold.logs) (held-with given tells past faults s may begins old u (all_of old) new hold)).told k
+            (of (cluster_over s hold.logs) (held-with given facts s may begins old u (all_of old) new hold)).told k
       ]
 
-      by : (f : RestartFault) → IsStopOf s f stop → IsOpenCaused tells past faults s.queues old new f
+      by : (f : RestartFault) → IsStopOf s f stop → IsOpenCaused facts s.queues old new f
           → MayNotOpen Met s (ending_of (stop_of stop))
       by (faults_of.Damaged node file place) is' cause =
           subst (λ (e : AskStop). MayNotOpen Met s (ending_of (stop_of e))) (sym is')

@@ -2,7 +2,8 @@
 use Rattle.std.proofs.Common.{◌≡◌, ◌≢◌, ℕ, Bool, true, false, List, [], ◌∷◌, ◌++◌, Option, None, refl, sym, ap, subst, ◌∙◌, inl, inr, arith}
 use Rattle.std.specs.List.{AllByRecursion}
 use Rattle.std.proofs.lemmas.Bool.{eq-eqb, false≢true, ne_eqb}
-use Rattle.qq_disk.specs.Disk.{Disk, now}
+use Rattle.qq_disk.specs.Disk.{now}
+use Rattle.qq_disk.specs.Facts.{DiskFacts}
 use Rattle.qq_disk.proofs.Moments.{adds-none}
 use Rattle.qq_raft_protocol.specs.Facts.{In}
 use Rattle.qq_cluster.specs.Cluster.{Cluster, ClusterEvent, Fails, Crashes, FindsEach, Setup, cluster_after, cluster_happens}
@@ -49,22 +50,23 @@ no-restart k (event ∷ events) unseen =
 
 -- ---- the disk
 
-module _ {D : Type 0} (tells : D → Bool) (past : D → List Disk) (faults : D → ℕ) (setup : Setup) (k : ℕ) where
-  traced : (c : Cluster) (events : List ClusterEvent) (d : D) → AreUnseen k events → IsLinked setup c k (now (past d))
-      → IsTracedAt setup c k events (past d) (past d)
-  traced c [] d unseen linked = (linked.promised, adds-none (IsPromised setup c k) (past d), linked)
+module _ {D : Type 0} (facts : DiskFacts D) (setup : Setup) (k : ℕ) where
+  traced : (c : Cluster) (events : List ClusterEvent) (d : D) → AreUnseen k events → IsLinked setup c k
+      (now (facts.past d))
+      → IsTracedAt setup c k events (facts.past d) (facts.past d)
+  traced c [] d unseen linked = (linked.promised, adds-none (IsPromised setup c k) (facts.past d), linked)
   traced c (event ∷ events) d unseen linked = (
     linked.promised,
-    past d,
-    past d,
-    adds-none (IsPromised setup c k) (past d),
-    subst (λ (b : Bool). KeepsWhere b setup c k event (past d) (past d)) (sym unseen.0) refl,
+    facts.past d,
+    facts.past d,
+    adds-none (IsPromised setup c k) (facts.past d),
+    subst (λ (b : Bool). KeepsWhere b setup c k event (facts.past d) (facts.past d)) (sym unseen.0) refl,
     λ fair. traced (cluster_happens c event) events d unseen.1
-        (unseen-linked setup c k event (now (past d)) unseen.0 linked),
+        (unseen-linked setup c k event (now (facts.past d)) unseen.0 linked),
   )
 
   pub same-disk : (c : Cluster) (events : List ClusterEvent) (d : D) → AreUnseen k events
-      → IsOneDisk tells past faults setup k c events d d
+      → IsOneDisk facts setup k c events d d
   same-disk c events d unseen = record {
     told = refl;
     rose = inl (omega (arith, no-failures k events unseen));

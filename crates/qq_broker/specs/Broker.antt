@@ -2,7 +2,7 @@
 use Rattle.std.specs.Prelude.{◌≡◌, ◌⊎◌, ◌≤◌, ℕ, Bool, true, false, List, [], ◌++◌, Option, Some, None, is_some, length, slice_get, vec_capacity}
 use Rattle.qq_base.specs.Causes.{Rose}
 use Rattle.qq_disk.specs.declared.image.Image.{Image}
-use Rattle.qq_disk.specs.Disk.{Disk}
+use Rattle.qq_disk.specs.Facts.{DiskFacts}
 use Rattle.qq_model.specs.Audit.{stays_within}
 use Rattle.qq_model.specs.State.{empty_queue}
 use Rattle.qq_raft_protocol.specs.Facts.{In}
@@ -46,10 +46,9 @@ use Rattle.qq_broker.specs.declared.faults.OpenFault.TheVariants as faults_of
 -- ---- a broker that runs
 
 -- Its nodes stand for what its run has done, and there is room to hand their disks back.
-pub record Runs {D : Type 0} (given : Giving D) (tells : D → Bool) (past : D → List Disk) (faults : D → ℕ)
-    (b : Broker D) (run : Run) : Type 0 where
+pub record Runs {D : Type 0} (given : Giving D) (facts : DiskFacts D) (b : Broker D) (run : Run) : Type 0 where
   pub may : MayRun b.setup
-  pub holds : Holds given tells past faults b.setup b.nodes run
+  pub holds : Holds given facts b.setup b.nodes run
   pub empty : b.room.items ≡ []
   pub room : b.setup.nodes ≤ vec_capacity b.room
 
@@ -58,11 +57,11 @@ abbrev pub told_of : {D : Type 0} → Broker D → Takers → Outcome
 told_of b takers = record { text = b.text.items; takers = takers }
 
 -- a line was served, takers saw what it shows, and all is handed out that was printed since text was handed out last
-abbrev pub HasStepped : {D : Type 0} → Giving D → (D → Bool) → (D → List Disk) → (D → ℕ) → Broker D → Broker D → Run
+abbrev pub HasStepped : {D : Type 0} → Giving D → DiskFacts D → Broker D → Broker D → Run
     → ScriptLine → List ℕ → (before later : Takers) → Type 0
-HasStepped given tells past faults old new run line said before later =
-    HasServed (Had given tells past faults) (setup_in old.setup run) run.events line
-    (λ events. Runs given tells past faults new (run_after run events)) (told_of old before)
+HasStepped given facts old new run line said before later =
+    HasServed (Had given facts) (setup_in old.setup run) run.events line
+    (λ events. Runs given facts new (run_after run events)) (told_of old before)
     (record { text = said; takers = later })
 
 -- whether a pump has left nothing to do
@@ -71,38 +70,37 @@ is_done Idle = true
 is_done Busy = false
 
 -- what the line `pump` allows was done, and it is told whether work is left
-abbrev pub HasPumped : {D : Type 0} → Giving D → (D → Bool) → (D → List Disk) → (D → ℕ) → Broker D → Broker D → Run
+abbrev pub HasPumped : {D : Type 0} → Giving D → DiskFacts D → Broker D → Broker D → Run
     → (before later : Takers) → Pumped → Type 0
-HasPumped given tells past faults old new run before later pumped =
-    HasServed (Had given tells past faults) (setup_in old.setup run) run.events Pump
-    (λ events. Runs given tells past faults new (run_after run events)
+HasPumped given facts old new run before later pumped =
+    HasServed (Had given facts) (setup_in old.setup run) run.events Pump
+    (λ events. Runs given facts new (run_after run events)
     × (is_done pumped ≡ is_idle (setup_in old.setup run) (after_all (setup_in old.setup run) events)))
     (told_of old before) (told_of new later)
 
 -- ---- disks that an opening hands back
 
 -- how a clause sees the disk of a node in a list
-abbrev pub seen_disk : {D : Type 0} → (D → Bool) → (D → List Disk) → (D → ℕ) → Option D → Seen
-seen_disk tells past faults None = record { tells = false; past = []; faults = 0 }
-seen_disk tells past faults (Some disk) = seen_of tells past faults disk
+abbrev pub seen_disk : {D : Type 0} → DiskFacts D → Option D → Seen
+seen_disk facts None = record { tells = false; past = []; faults = 0 }
+seen_disk facts (Some disk) = seen_of facts disk
 
-abbrev pub seen_among : {D : Type 0} → (D → Bool) → (D → List Disk) → (D → ℕ) → List D → ℕ → Seen
-seen_among tells past faults disks k = seen_disk tells past faults (disk_at k disks)
+abbrev pub seen_among : {D : Type 0} → DiskFacts D → List D → ℕ → Seen
+seen_among facts disks k = seen_disk facts (disk_at k disks)
 
 -- Nodes over these disks were opened, as far as that came, and these are left of the disks: each shows its contents as
 -- before, failed no less often, and kept at each moment what its log had promised by then.
-pub record WereOpened {D : Type 0} (tells : D → Bool) (past : D → List Disk) (faults : D → ℕ) (s : Setup)
-    (disks left : List D) : Type 0 where
+pub record WereOpened {D : Type 0} (facts : DiskFacts D) (s : Setup) (disks left : List D) : Type 0 where
   pub old : Nodes D
-  pub were : HaveDisks tells past faults disks old
+  pub were : HaveDisks facts disks old
   pub new : Nodes D
-  pub are : HaveDisks tells past faults left new
-  pub gives_up : GivesUpOver tells past faults s.queues old new
+  pub are : HaveDisks facts left new
+  pub gives_up : GivesUpOver facts s.queues old new
 
 -- as many disks, in order, as they were or as an opening has left them
-abbrev pub HandsBack : {D : Type 0} → (D → Bool) → (D → List Disk) → (D → ℕ) → Setup → List D → List D → Type 0
-HandsBack tells past faults s disks left =
-    (length left ≡ length disks) × ((left ≡ disks) ⊎ WereOpened tells past faults s disks left)
+abbrev pub HandsBack : {D : Type 0} → DiskFacts D → Setup → List D → List D → Type 0
+HandsBack facts s disks left =
+    (length left ≡ length disks) × ((left ≡ disks) ⊎ WereOpened facts s disks left)
 
 -- each disk has failed
 abbrev pub EachFailed : {D : Type 0} → (D → ℕ) → List D → List D → Type 0
@@ -129,25 +127,25 @@ IsPastEnd q = stays_within (empty_queue q.args) q.group.audit ≡ false
 
 -- What is left of a broker whose nodes were stopped, and whose disks are these. Whatever crashes leave of the disks,
 -- its queues stand for the cluster after the crashes; each disk is what has become of one that was given for its node.
-pub record Rests {D : Type 0} (given : Giving D) (tells : D → Bool) (past : D → List Disk) (faults : D → ℕ)
-    (t : SetupState) (disks : List D) (a : Audits D) (run : Run) : Type 0 where
+pub record Rests {D : Type 0} (given : Giving D) (facts : DiskFacts D) (t : SetupState) (disks : List D) (a : Audits D)
+    (run : Run) : Type 0 where
   pub may : IsRunnable t
   -- the nodes as they stopped, with their logs
   pub held : Nodes D
   pub same : a.nodes ≡ record held { nodes = a.nodes.nodes }
   pub gave : GiveDisks held.nodes.items a.nodes.nodes.items disks
-  pub stands : (images : ℕ → Image) → Stands tells past (setup_at t run) held
+  pub stands : (images : ℕ → Image) → Stands facts (setup_at t run) held
       (cluster_after (cluster_at t run) (crashes_with images (setup_at t run).nodes))
   pub restarted : (k : ℕ) → In k (setup_at t run).nodes → is_some (first_restart k run.events) ≡ true
   pub disks_are : (k : ℕ) → In k (setup_at t run).nodes
-      → (last : D) × (disk_at k disks ≡ Some last) × Became given tells past faults (setup_at t run) run.events k last
+      → (last : D) × (disk_at k disks ≡ Some last) × Became given facts (setup_at t run) run.events k last
 
 -- Each disk is what a crash with its node's image has left of what it was, or it is as it was.
-pub record ComeBack {D : Type 0} (given : Giving D) (tells : D → Bool) (past : D → List Disk) (images : ℕ → Image)
+pub record ComeBack {D : Type 0} (given : Giving D) (facts : DiskFacts D) (images : ℕ → Image)
     (disks again : List D) : Type 0 where
   pub count : length again ≡ length disks
   pub each : (k : ℕ) (old new : D) → disk_at k disks ≡ Some old → disk_at k again ≡ Some new
-      → IsLeft given tells past (images k) old new
+      → IsLeft given facts (images k) old new
 
 -- ---- going on
 
@@ -173,16 +171,15 @@ MayNotReopen met setup events (Ended ending) =
     ⊎ (EndsDamaged met setup setup.nodes events ending ⊎ EndsLost met setup setup.nodes events ending)
 MayNotReopen met setup events NoMemory = Unit {0}
 
-abbrev pub IsReopenCaused : {D : Type 0} → Giving D → (D → Bool) → (D → List Disk) → (D → ℕ) → Setup → ClusterSetup
+abbrev pub IsReopenCaused : {D : Type 0} → Giving D → DiskFacts D → Setup → ClusterSetup
     → List ClusterEvent → List D → List D → OpenFault → Type 0
-IsReopenCaused given tells past faults s setup events disks left faults_of.Disk = EachFailed faults disks left
-IsReopenCaused given tells past faults s setup events disks left (faults_of.Nodes fault) =
-    MayNotReopen (Meets given tells past faults 0 0) setup events (stop_for s fault)
+IsReopenCaused given facts s setup events disks left faults_of.Disk = EachFailed facts.faults disks left
+IsReopenCaused given facts s setup events disks left (faults_of.Nodes fault) =
+    MayNotReopen (Meets given facts 0 0) setup events (stop_for s fault)
 
 -- As many disks, in order: each shows its contents as before, failed no less often, and kept at each moment what its
 -- log had promised by then.
-pub record StillKeep {D : Type 0} (tells : D → Bool) (past : D → List Disk) (faults : D → ℕ) (setup : ClusterSetup)
-    (events : List ClusterEvent) (disks left : List D) : Type 0 where
+pub record StillKeep {D : Type 0} (facts : DiskFacts D) (setup : ClusterSetup) (events : List ClusterEvent)
+    (disks left : List D) : Type 0 where
   pub count : length left ≡ length disks
-  pub gives_up : GivesUp setup (after_all setup events) (seen_among tells past faults disks)
-      (seen_among tells past faults left)
+  pub gives_up : GivesUp setup (after_all setup events) (seen_among facts disks) (seen_among facts left)

@@ -4,7 +4,7 @@ use Rattle.qq_base.specs.declared.ids.QueueId.{QueueId}
 use Rattle.qq_base.specs.declared.ids.SessionId.{SessionId}
 use Rattle.qq_base.specs.declared.memory.Memory.{Memory}
 use Rattle.qq_base.specs.declared.memory.Memory.TheVariants.{Want, Spent}
-use Rattle.qq_disk.specs.Disk.{Disk}
+use Rattle.qq_disk.specs.Facts.{DiskFacts}
 use Rattle.qq_entry.specs.declared.audit.AuditRow.{AuditRow}
 use Rattle.qq_entry.specs.declared.command.Unstamped.{Unstamped}
 use Rattle.qq_session.specs.Clients.{may_hand}
@@ -83,13 +83,13 @@ pub record Answers (setup : ClusterSetup) (c : Cluster) (place : ℕ) (early lat
 
 -- A broker was called: what happened is what a call allows, and it is answered so. Takers have seen what it shows, and
 -- who listened to them before has heard nothing of it.
-pub record HasCalled {D : Type 0} (given : Giving D) (tells : D → Bool) (past : D → List Disk) (faults : D → ℕ)
-    (old new : Broker D) (run : Run) (session : SessionId) (queue : QueueId) (body : Unstamped) (before later : Takers)
+pub record HasCalled {D : Type 0} (given : Giving D) (facts : DiskFacts D) (old new : Broker D) (run : Run)
+    (session : SessionId) (queue : QueueId) (body : Unstamped) (before later : Takers)
     (called : Called) : Type 0 where
   pub more : List ClusterEvent
   pub allowed : IsCall (setup_in old.setup run) session.number body queue.0 (cluster_in old.setup run) more
-  pub disks : Had given tells past faults (setup_in old.setup run) (run.events ++ more)
-  pub runs : Runs given tells past faults new (run_after run (run.events ++ more))
+  pub disks : Had given facts (setup_in old.setup run) (run.events ++ more)
+  pub runs : Runs given facts new (run_after run (run.events ++ more))
   pub answers :
       Answers (setup_in old.setup run) (cluster_in old.setup run) queue.0 allowed.early allowed.late called
   pub held : later.held ≡ (takers_after (setup_in old.setup run) (cluster_in old.setup run) more before).held
@@ -122,11 +122,11 @@ outcome_at q session body =
 -- ---- the parts of a call
 
 -- nodes did what a rule allows, and what was heard of it was taken out
-pub record Hears {D : Type 0} (tells : D → Bool) (past : D → List Disk) (faults : D → ℕ)
-    (Allows : ClusterSetup → Cluster → List ClusterEvent → Type 0) (old new : Nodes D) (before later : Outcome)
+pub record Hears {D : Type 0} (facts : DiskFacts D) (Allows : ClusterSetup → Cluster → List ClusterEvent → Type 0)
+    (old new : Nodes D) (before later : Outcome)
     (list : List Heard) : Type 0 where
   pub told : Outcome
-  pub served : Served tells past faults Allows old new before told
+  pub served : Served facts Allows old new before told
   pub heard : (all : List Heard) → told.takers.heard ≡ Some all → list ≡ all
   pub taken : later ≡ record told { takers = take_heard told.takers }
 
@@ -139,15 +139,15 @@ pub record Sorts (place : ℕ) (list : List Heard) (old new : Called) : Type 0 w
   pub pumped : new.pumped ≡ old.pumped
 
 -- nodes were given a command, and pumped, and this is what was heard of both
-pub record HearsCall {D : Type 0} (tells : D → Bool) (past : D → List Disk) (faults : D → ℕ) (session : ℕ)
-    (body : Unstamped) (place : ℕ) (old new : Nodes D) (before later : Outcome) (called : Called) : Type 0 where
+pub record HearsCall {D : Type 0} (facts : DiskFacts D) (session : ℕ) (body : Unstamped) (place : ℕ) (old new : Nodes D)
+    (before later : Outcome) (called : Called) : Type 0 where
   pub mid : Nodes D
   pub between : Outcome
   pub asked : List Heard
   pub list : List Heard
-  pub gives : Hears tells past faults (λ setup. IsGiven session body place) old mid before between asked
-  pub pumps : Hears tells past faults IsPump mid new between later list
-  pub idle : (setup : ClusterSetup) (c : Cluster) → IsReached setup c → Stands tells past setup new c
+  pub gives : Hears facts (λ setup. IsGiven session body place) old mid before between asked
+  pub pumps : Hears facts IsPump mid new between later list
+  pub idle : (setup : ClusterSetup) (c : Cluster) → IsReached setup c → Stands facts setup new c
       → is_done called.pumped ≡ is_idle setup c
   pub outcome : called.outcome ≡ outcome_heard asked
   pub rows : called.rows.items ≡ rows_heard place list
@@ -155,9 +155,9 @@ pub record HearsCall {D : Type 0} (tells : D → Bool) (past : D → List Disk) 
   pub others : called.others.items ≡ others_heard place list
 
 -- there was no memory, or nodes have a number at its end in the midst of a call
-abbrev pub StopsCall : {D : Type 0} → (D → Bool) → (D → List Disk) → (D → ℕ) → (session : ℕ) → Unstamped
+abbrev pub StopsCall : {D : Type 0} → DiskFacts D → (session : ℕ) → Unstamped
     → (place : ℕ) → Nodes D → Memory → Type 0
-StopsCall tells past faults session body place old Want = Unit {0}
-StopsCall tells past faults session body place old (Spent number) =
-    (setup : ClusterSetup) (c : Cluster) → IsReached setup c → Stands tells past setup old c
-    → EndsAt tells past faults setup (IsCall setup session body place) old c number
+StopsCall facts session body place old Want = Unit {0}
+StopsCall facts session body place old (Spent number) =
+    (setup : ClusterSetup) (c : Cluster) → IsReached setup c → Stands facts setup old c
+    → EndsAt facts setup (IsCall setup session body place) old c number

@@ -1,6 +1,6 @@
 -- What nodes of a drill have done when they served lines and parts of it.
-use Rattle.std.specs.Prelude.{◌≡◌, ℕ, Bool, List, [], ◌∷◌, ◌++◌, Some}
-use Rattle.qq_disk.specs.Disk.{Disk}
+use Rattle.std.specs.Prelude.{◌≡◌, ℕ, List, [], ◌∷◌, ◌++◌, Some}
+use Rattle.qq_disk.specs.Facts.{DiskFacts}
 use Rattle.qq_script_lines.specs.declared.line.ScriptLine.{ScriptLine}
 use Rattle.qq_setup.specs.declared.setup.Setup.{Setup}
 use Rattle.qq_cluster.specs.Cluster.{ClusterEvent, cluster_after}
@@ -26,9 +26,9 @@ pub record IsSilent (told : Outcome) : Type 0 where
   pub heard : told.takers.heard ≡ Some []
 
 -- Nodes stand for a run, nothing that it told is left, and this is known of its drill.
-pub record Plays {D : Type 0} (given : Giving D) (tells : D → Bool) (past : D → List Disk) (faults : D → ℕ) (s : Setup)
-    (run : Run) (held : Nodes D) (told : Outcome) (play : Play) (k : Known) : Type 0 where
-  pub holds : Holds given tells past faults s held run
+pub record Plays {D : Type 0} (given : Giving D) (facts : DiskFacts D) (s : Setup) (run : Run) (held : Nodes D)
+    (told : Outcome) (play : Play) (k : Known) : Type 0 where
+  pub holds : Holds given facts s held run
   pub silent : IsSilent told
   pub knows : Knows play k
 
@@ -37,43 +37,41 @@ abbrev pub run_with : Run → List ClusterEvent → Run
 run_with run more = with_events run (run.events ++ more)
 
 -- lines were served
-pub record LinesServed {D : Type 0} (given : Giving D) (tells : D → Bool) (past : D → List Disk) (faults : D → ℕ)
-    (s : Setup) (run : Run) (lines : List ScriptLine) (k : Known) (held : Nodes D) (told : Outcome) (play : Play) : Type 0
+pub record LinesServed {D : Type 0} (given : Giving D) (facts : DiskFacts D) (s : Setup) (run : Run)
+    (lines : List ScriptLine) (k : Known) (held : Nodes D) (told : Outcome) (play : Play) : Type 0
   where
     pub more : List ClusterEvent
     pub allowed : IsScript (setup_in s run) lines (cluster_in s run) more
-    pub plays : Plays given tells past faults s (run_with run more) held told play
-        (know (setup_in s run) (cluster_in s run) more k)
+    pub plays : Plays given facts s (run_with run more) held told play (know (setup_in s run) (cluster_in s run) more k)
 
 -- parts were done
-pub record PartsDone {D : Type 0} (given : Giving D) (tells : D → Bool) (past : D → List Disk) (faults : D → ℕ)
-    (s : Setup) (run : Run) (parts : List Part) (k : Known) (held : Nodes D) (told : Outcome) (play : Play) : Type 0
+pub record PartsDone {D : Type 0} (given : Giving D) (facts : DiskFacts D) (s : Setup) (run : Run) (parts : List Part)
+    (k : Known) (held : Nodes D) (told : Outcome) (play : Play) : Type 0
   where
     pub more : List ClusterEvent
     pub later : Known
     pub are : AreParts (setup_in s run) parts k (cluster_in s run) more later
-    pub plays : Plays given tells past faults s (run_with run more) held told play later
+    pub plays : Plays given facts s (run_with run more) held told play later
 
 -- how a drill ends that stops so
 abbrev pub ending_at : AskStop → Ending
 ending_at stop = ending_of (stop_of stop)
 
 -- some of the lines that come next were served, and then it stops
-abbrev pub LinesStop : {D : Type 0} → Giving D → (D → Bool) → (D → List Disk) → (D → ℕ) → (before after : ℕ) → Setup
+abbrev pub LinesStop : {D : Type 0} → Giving D → DiskFacts D → (before after : ℕ) → Setup
     → Run → List ScriptLine → AskStop → Type 0
-LinesStop given tells past faults before after s run lines stop =
-    StopsWithin (Meets given tells past faults before after) (Had given tells past faults) (setup_in s run) run.events lines
-    (ending_at stop)
+LinesStop given facts before after s run lines stop =
+    StopsWithin (Meets given facts before after) (Had given facts) (setup_in s run) run.events lines (ending_at stop)
 
 -- within a part
-abbrev pub PartStops : {D : Type 0} → Giving D → (D → Bool) → (D → List Disk) → (D → ℕ) → (before after : ℕ) → Setup
+abbrev pub PartStops : {D : Type 0} → Giving D → DiskFacts D → (before after : ℕ) → Setup
     → Run → Part → Known → AskStop → Type 0
-PartStops given tells past faults before after s run part k stop =
-    LinesStop given tells past faults before after s run (part_lines part (is_led part (cluster_in s run)) k.drill) stop
+PartStops given facts before after s run part k stop =
+    LinesStop given facts before after s run (part_lines part (is_led part (cluster_in s run)) k.drill) stop
 
 -- some parts were done, and it stops within the next one
-pub record PartsStop {D : Type 0} (given : Giving D) (tells : D → Bool) (past : D → List Disk) (faults : D → ℕ)
-    (before after : ℕ) (s : Setup) (run : Run) (parts : List Part) (k : Known) (stop : AskStop) : Type 0 where
+pub record PartsStop {D : Type 0} (given : Giving D) (facts : DiskFacts D) (before after : ℕ) (s : Setup) (run : Run)
+    (parts : List Part) (k : Known) (stop : AskStop) : Type 0 where
   pub done : List Part
   pub part : Part
   pub later : List Part
@@ -81,5 +79,5 @@ pub record PartsStop {D : Type 0} (given : Giving D) (tells : D → Bool) (past 
   pub more : List ClusterEvent
   pub known : Known
   pub are : AreParts (setup_in s run) done k (cluster_in s run) more known
-  pub disks : Had given tells past faults (setup_in s run) (run.events ++ more)
-  pub stops : PartStops given tells past faults before after s (run_with run more) part known stop
+  pub disks : Had given facts (setup_in s run) (run.events ++ more)
+  pub stops : PartStops given facts before after s (run_with run more) part known stop

@@ -1,9 +1,9 @@
 -- What a dump of a node's disk has done.
-use Rattle.std.specs.Prelude.{◌≡◌, ◌⊎◌, ℕ, Bool, List, ◌++◌, IsTrue}
+use Rattle.std.specs.Prelude.{◌≡◌, ◌⊎◌, ℕ, List, ◌++◌, IsTrue}
 use Rattle.qq_base.specs.Causes.{Rose}
 use Rattle.qq_base.specs.Fronts.{IsFront}
 use Rattle.qq_base.specs.declared.ids.NodeId.{NodeId}
-use Rattle.qq_disk.specs.Disk.{Disk}
+use Rattle.qq_disk.specs.Facts.{DiskFacts}
 use Rattle.qq_dump.specs.Files.{AreShown, LogFile, dump_text}
 use Rattle.qq_ports.specs.Streams.{IsUnread, SinkFails, SinkState, Streams, Writes, WritesPart}
 use Rattle.qq_cluster_run.specs.declared.status.TheConstants.{DONE, WRITE_FAULT}
@@ -34,22 +34,22 @@ HasDumped status disk files before later =
 
 -- The yard gave a disk for the node under the run's root, and the text of the log files that it shows was written.
 -- Nothing was read, and what the disk holds is as it was.
-pub record IsDumped {D : Type 0} (given : Giving D) (tells : D → Bool) (past : D → List Disk) (faults : D → ℕ)
-    (status : ℕ) (node : NodeId) (before later : Streams) : Type 0 where
+pub record IsDumped {D : Type 0} (given : Giving D) (facts : DiskFacts D) (status : ℕ) (node : NodeId)
+    (before later : Streams) : Type 0 where
   pub first : D
-  pub given_is : IsGiven given tells past node.0 first
+  pub given_is : IsGiven given facts node.0 first
   pub last : D
-  pub told : tells last ≡ tells first
-  pub same : IsTrue (tells first) → past last ≡ past first
+  pub told : facts.tells last ≡ facts.tells first
+  pub same : IsTrue (facts.tells first) → facts.past last ≡ facts.past first
   pub files : List LogFile
-  pub shown : AreShown tells past first files
+  pub shown : AreShown facts first files
   pub keeps : IsUnread before later
-  pub has : HasDumped status (Rose (faults first) (faults last)) files before.sink later.sink
+  pub has : HasDumped status (Rose (facts.faults first) (facts.faults last)) files before.sink later.sink
 
 -- What a dump has done that ends with this status, where the yard counted so many faults at first and in the end: the
 -- yard gave no disk, or the text of one was written.
-abbrev pub DumpEnds : {D : Type 0} → Giving D → (D → Bool) → (D → List Disk) → (D → ℕ) → (status : ℕ) → NodeId
+abbrev pub DumpEnds : {D : Type 0} → Giving D → DiskFacts D → (status : ℕ) → NodeId
     → (before later : Streams) → (yard yard' : ℕ) → Type 0
-DumpEnds given tells past faults status node before later yard yard' =
+DumpEnds given facts status node before later yard yard' =
     IsUnopened status before later (IsYardEnding yard yard')
-    ⊎ IsDumped given tells past faults status node before later
+    ⊎ IsDumped given facts status node before later

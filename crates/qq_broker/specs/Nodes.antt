@@ -1,7 +1,8 @@
 -- The nodes of a run: what they had, and what the run meets in its yard and in the disks that it gives.
-use Rattle.std.specs.Prelude.{◌≡◌, ℕ, Bool, true, List, Option, Some, None, Ok, Err, IsTrue, is_some}
+use Rattle.std.specs.Prelude.{◌≡◌, ℕ, true, List, Option, Some, None, Ok, Err, IsTrue, is_some}
 use Rattle.qq_base.specs.Causes.{Rose}
-use Rattle.qq_disk.specs.Disk.{Disk, now}
+use Rattle.qq_disk.specs.Disk.{now}
+use Rattle.qq_disk.specs.Facts.{DiskFacts}
 use Rattle.qq_log.specs.Stable.{Stable}
 use Rattle.qq_lots.specs.Left.{state_in}
 use Rattle.qq_lots.specs.Lots.{ids_of}
@@ -31,34 +32,32 @@ MayRun s = IsRunnable (state_of s)
 -- ---- what the disks had
 
 -- where these events happened, each node's disk is what has become of one that was given for it
-abbrev pub Had : {D : Type 0} → Giving D → (D → Bool) → (D → List Disk) → (D → ℕ) → Histories
-Had {D} given tells past faults setup events =
-    (k : ℕ) → In k setup.nodes → (last : D) × Became given tells past faults setup events k last
+abbrev pub Had : {D : Type 0} → Giving D → DiskFacts D → Histories
+Had {D} given facts setup events =
+    (k : ℕ) → In k setup.nodes → (last : D) × Became given facts setup events k last
 
 -- this is a node's disk as it is
-abbrev pub IsDiskOf : {D : Type 0} → (D → Bool) → (D → List Disk) → (D → ℕ) → Nodes D → ℕ → D → Type 0
-IsDiskOf tells past faults held k disk = seen tells past faults held k ≡ seen_of tells past faults disk
+abbrev pub IsDiskOf : {D : Type 0} → DiskFacts D → Nodes D → ℕ → D → Type 0
+IsDiskOf facts held k disk = seen facts held k ≡ seen_of facts disk
 
 -- Nodes stand for the cluster of a run, which has restarted each of them, and each one's disk is what has become of one that
 -- was given for it.
-pub record Holds {D : Type 0} (given : Giving D) (tells : D → Bool) (past : D → List Disk) (faults : D → ℕ)
-    (s : Setup) (held : Nodes D) (run : Run) : Type 0 where
-  pub stands : Stands tells past (setup_in s run) held (cluster_in s run)
+pub record Holds {D : Type 0} (given : Giving D) (facts : DiskFacts D) (s : Setup) (held : Nodes D)
+    (run : Run) : Type 0 where
+  pub stands : Stands facts (setup_in s run) held (cluster_in s run)
   pub restarted : (k : ℕ) → In k (setup_in s run).nodes → is_some (first_restart k run.events) ≡ true
   pub disks : (k : ℕ) → In k (setup_in s run).nodes
-      → (last : D) × IsDiskOf tells past faults held k last
-      × Became given tells past faults (setup_in s run) run.events k last
+      → (last : D) × IsDiskOf facts held k last × Became given facts (setup_in s run) run.events k last
 
 -- ---- what a run meets in its yard, and in the disks that it gives
 
 -- a disk's count of faults rose since it was given for this node
-pub record HasFailed {D : Type 0} (given : Giving D) (tells : D → Bool) (past : D → List Disk) (faults : D → ℕ)
-    (k : ℕ) : Type 0 where
+pub record HasFailed {D : Type 0} (given : Giving D) (facts : DiskFacts D) (k : ℕ) : Type 0 where
   pub first : D
-  pub given_is : IsGiven given tells past k first
+  pub given_is : IsGiven given facts k first
   pub last : D
-  pub told : tells last ≡ tells first
-  pub rose : Rose (faults first) (faults last)
+  pub told : facts.tells last ≡ facts.tells first
+  pub rose : Rose (facts.faults first) (facts.faults last)
 
 -- where recovery refuses a disk
 abbrev pub damage_of : RecoverFault → Option Damage
@@ -67,49 +66,50 @@ damage_of (recover_faults.Version file byte) = Some (OfVersion file.number byte)
 damage_of _ = None
 
 -- Until its first restart a node's disk is as it was given.
-abbrev pub IsAsGiven : {D : Type 0} {given : Giving D} {tells : D → Bool} {past : D → List Disk} {faults : D → ℕ}
-    {setup : ClusterSetup} {events : List ClusterEvent} {k : ℕ} {last : D}
-    → Became given tells past faults setup events k last → Type 0
+abbrev pub IsAsGiven : {D : Type 0} {given : Giving D} {facts : DiskFacts D} {setup : ClusterSetup}
+    {events : List ClusterEvent} {k : ℕ} {last : D}
+    → Became given facts setup events k last → Type 0
 IsAsGiven {events = events} {k = k} {last = last} became = first_restart k events ≡ None → last ≡ became.first
 
 -- What has become of a node's disk breaks the rules of its log; where the disk shows its contents, recovery reads it so.
-pub record IsBroken {D : Type 0} (given : Giving D) (tells : D → Bool) (past : D → List Disk) (faults : D → ℕ)
-    (setup : ClusterSetup) (events : List ClusterEvent) (k : ℕ) (damage : Damage) : Type 0 where
+pub record IsBroken {D : Type 0} (given : Giving D) (facts : DiskFacts D) (setup : ClusterSetup)
+    (events : List ClusterEvent) (k : ℕ) (damage : Damage) : Type 0 where
   pub last : D
-  pub became : Became given tells past faults setup events k last
+  pub became : Became given facts setup events k last
   pub as_given : IsAsGiven became
   pub fault : RecoverFault
   pub is : damage_of fault ≡ Some damage
-  pub read : IsTrue (tells last) → lanes_read (ids_of (lot_of setup k)) (shown (now (past last))) ≡ Err fault
+  pub read : IsTrue (facts.tells last) → lanes_read (ids_of (lot_of setup k))
+      (shown (now (facts.past last))) ≡ Err fault
 
 -- what recovery reads of a queue in what has become of a node's disk, where that shows its contents
-pub record HoldsQueue {D : Type 0} (given : Giving D) (tells : D → Bool) (past : D → List Disk) (faults : D → ℕ)
-    (setup : ClusterSetup) (events : List ClusterEvent) (k place : ℕ) (lane : Stable) : Type 0 where
+pub record HoldsQueue {D : Type 0} (given : Giving D) (facts : DiskFacts D) (setup : ClusterSetup)
+    (events : List ClusterEvent) (k place : ℕ) (lane : Stable) : Type 0 where
   pub last : D
-  pub became : Became given tells past faults setup events k last
+  pub became : Became given facts setup events k last
   pub as_given : IsAsGiven became
-  pub read : IsTrue (tells last) → (lanes : Lanes)
-      × (lanes_read (ids_of (lot_of setup k)) (shown (now (past last))) ≡ Ok lanes)
+  pub read : IsTrue (facts.tells last) → (lanes : Lanes)
+      × (lanes_read (ids_of (lot_of setup k)) (shown (now (facts.past last))) ≡ Ok lanes)
       × (lane ≡ state_in lanes (setup.args place).queue)
 
 -- After these events nodes have the number at its end. Each one's disk is what has become of one that was given for it;
 -- so where the number is of a log, that disk tells it, as it is or as a call has left it.
-pub record HasNumber {D : Type 0} (given : Giving D) (tells : D → Bool) (past : D → List Disk) (faults : D → ℕ)
-    (setup : ClusterSetup) (events : List ClusterEvent) (number : ℕ) : Type 0 where
+pub record HasNumber {D : Type 0} (given : Giving D) (facts : DiskFacts D) (setup : ClusterSetup)
+    (events : List ClusterEvent) (number : ℕ) : Type 0 where
   pub held : Nodes D
-  pub stands : Stands tells past setup held (after_all setup events)
+  pub stands : Stands facts setup held (after_all setup events)
   pub disks : (k : ℕ) → In k setup.nodes
-      → (last : D) × IsDiskOf tells past faults held k last × Became given tells past faults setup events k last
-  pub at : NumberAt tells past held number
+      → (last : D) × IsDiskOf facts held k last × Became given facts setup events k last
+  pub at : NumberAt facts held number
 
-abbrev pub Meets : {D : Type 0} → Giving D → (D → Bool) → (D → List Disk) → (D → ℕ) → (before after : ℕ)
+abbrev pub Meets : {D : Type 0} → Giving D → DiskFacts D → (before after : ℕ)
     → Trouble → Type 0
-Meets given tells past faults before after YardFails = Rose before after
-Meets given tells past faults before after (DiskFails k) = HasFailed given tells past faults k
-Meets given tells past faults before after (FilesBreak setup events k damage) =
-    IsBroken given tells past faults setup events k damage
-Meets given tells past faults before after (QueueIsFound setup events k place lane) =
-    HoldsQueue given tells past faults setup events k place lane
-Meets given tells past faults before after (NumberEnds setup events number) =
-    HasNumber given tells past faults setup events number
-Meets given tells past faults before after (TakerIsGone setup events number) = ⊥
+Meets given facts before after YardFails = Rose before after
+Meets given facts before after (DiskFails k) = HasFailed given facts k
+Meets given facts before after (FilesBreak setup events k damage) =
+    IsBroken given facts setup events k damage
+Meets given facts before after (QueueIsFound setup events k place lane) =
+    HoldsQueue given facts setup events k place lane
+Meets given facts before after (NumberEnds setup events number) =
+    HasNumber given facts setup events number
+Meets given facts before after (TakerIsGone setup events number) = ⊥

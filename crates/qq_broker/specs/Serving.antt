@@ -1,12 +1,12 @@
 -- What nodes of a run have done when they served a line, and what they are opened with.
-use Rattle.std.specs.Prelude.{◌≡◌, ◌⊎◌, ℕ, ◌+◌, Bool, List, Some, map, slice_get}
+use Rattle.std.specs.Prelude.{◌≡◌, ◌⊎◌, ℕ, ◌+◌, List, Some, map, slice_get}
 use Rattle.std.specs.List.{AllByRecursion, range_with_len}
 use Rattle.qq_base.specs.Causes.{Rose}
 use Rattle.qq_base.specs.declared.ids.QueueId.{QueueId}
 use Rattle.qq_base.specs.declared.memory.Memory.{Memory}
 use Rattle.qq_base.specs.declared.memory.Memory.TheVariants.{Want, Spent}
 use Rattle.qq_disk.specs.declared.image.Image.{Image}
-use Rattle.qq_disk.specs.Disk.{Disk}
+use Rattle.qq_disk.specs.Facts.{DiskFacts}
 use Rattle.qq_ports.specs.declared.yard_fault.YardFault.{YardFault}
 use Rattle.qq_ports.specs.declared.yard_fault.YardFault.TheVariants as yard_faults
 use Rattle.qq_raft_protocol.specs.Facts.{In}
@@ -35,11 +35,11 @@ abbrev pub run_after : Run → List ClusterEvent → Run
 run_after run events = record { lines = run.lines + 1; logs = run.logs; events = events }
 
 -- a line was served
-abbrev pub IsServed : {D : Type 0} → Giving D → (D → Bool) → (D → List Disk) → (D → ℕ) → Setup → Run → ScriptLine
+abbrev pub IsServed : {D : Type 0} → Giving D → DiskFacts D → Setup → Run → ScriptLine
     → Nodes D → Outcome → Outcome → Type 0
-IsServed given tells past faults s run line held before later =
-    HasServed (Had given tells past faults) (setup_in s run) run.events line
-    (λ events. Holds given tells past faults s held (run_after run events)) before later
+IsServed given facts s run line held before later =
+    HasServed (Had given facts) (setup_in s run) run.events line
+    (λ events. Holds given facts s held (run_after run events)) before later
 
 -- there was no memory, or in the midst of a line a number stands at its end
 abbrev pub IsGivenUp : (Trouble → Type 0) → ClusterSetup → List ClusterEvent → ScriptLine → Memory → Type 0
@@ -53,23 +53,22 @@ AreThere s queues = AllByRecursion (λ (queue : QueueId). In queue.0 (map place_
 -- ---- how nodes begin
 
 -- each disk was given for its node, in order
-abbrev pub AreGiven : {D : Type 0} → Giving D → (D → Bool) → (D → List Disk) → List D → Type 0
-AreGiven {D} given tells past disks =
-    (i : ℕ) (disk : D) → slice_get disks i ≡ Some disk → IsGiven given tells past (i + 1) disk
+abbrev pub AreGiven : {D : Type 0} → Giving D → DiskFacts D → List D → Type 0
+AreGiven {D} given facts disks =
+    (i : ℕ) (disk : D) → slice_get disks i ≡ Some disk → IsGiven given facts (i + 1) disk
 
 -- each node has the disk that was given for it
-abbrev pub HaveGiven : {D : Type 0} → Giving D → (D → Bool) → (D → List Disk) → (D → ℕ) → Setup → Nodes D → Type 0
-HaveGiven {D} given tells past faults s held =
+abbrev pub HaveGiven : {D : Type 0} → Giving D → DiskFacts D → Setup → Nodes D → Type 0
+HaveGiven {D} given facts s held =
     (k : ℕ) → In k (cluster_setup s).nodes
-    → (disk : D) × IsDiskOf tells past faults held k disk × IsGiven given tells past k disk
+    → (disk : D) × IsDiskOf facts held k disk × IsGiven given facts k disk
 
 -- Nodes that weren't opened yet: they stand for the cluster of the setup over new logs, where nothing has happened, and each
 -- has the disk that was given for it.
-pub record AreUnopened {D : Type 0} (given : Giving D) (tells : D → Bool) (past : D → List Disk) (faults : D → ℕ)
-    (s : Setup) (held : Nodes D) : Type 0 where
-  pub stands : Stands tells past (cluster_setup s) held (new_cluster (cluster_setup s))
-  pub new : AreNew tells past s.queues held
-  pub disks : HaveGiven given tells past faults s held
+pub record AreUnopened {D : Type 0} (given : Giving D) (facts : DiskFacts D) (s : Setup) (held : Nodes D) : Type 0 where
+  pub stands : Stands facts (cluster_setup s) held (new_cluster (cluster_setup s))
+  pub new : AreNew facts s.queues held
+  pub disks : HaveGiven given facts s held
 
 -- ---- how a run ends
 

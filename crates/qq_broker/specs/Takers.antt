@@ -1,6 +1,6 @@
 -- The takers of a run: which of them it gives to consumers, and what they have seen.
-use Rattle.std.specs.Prelude.{◌≡◌, ◌+◌, ℕ, Bool, true, false, List, [], ◌∷◌}
-use Rattle.qq_disk.specs.Disk.{Disk}
+use Rattle.std.specs.Prelude.{◌≡◌, ◌+◌, ℕ, true, false, List, [], ◌∷◌}
+use Rattle.qq_disk.specs.Facts.{DiskFacts}
 use Rattle.qq_script_lines.specs.declared.line.ScriptLine.{ScriptLine}
 use Rattle.qq_script_lines.specs.declared.line.ScriptLine.TheVariants.{Attach}
 use Rattle.qq_setup.specs.declared.setup.Setup.{Setup}
@@ -64,27 +64,27 @@ IsRefusedBy (Ended ending) = IsRefusal ending
 IsRefusedBy NoMemory = ⊥
 
 -- what its disks had, and that each taker that was given was free then
-abbrev pub RunHad : {D : Type 0} → Giving D → (D → Bool) → (D → List Disk) → (D → ℕ) → Takers → Histories
-RunHad given tells past faults first setup events =
-    Had given tells past faults setup events × GaveFree first setup events
+abbrev pub RunHad : {D : Type 0} → Giving D → DiskFacts D → Takers → Histories
+RunHad given facts first setup events =
+    Had given facts setup events × GaveFree first setup events
 
 -- in the end its takers, which were the first, have seen what these events show
-abbrev pub RunClaims : {D : Type 0} → Giving D → (D → Bool) → (D → List Disk) → (D → ℕ) → (first last : Takers) → Claims
-RunClaims given tells past faults first last = record {
-  during = RunHad given tells past faults first;
+abbrev pub RunClaims : {D : Type 0} → Giving D → DiskFacts D → (first last : Takers) → Claims
+RunClaims given facts first last = record {
+  during = RunHad given facts first;
   finally = λ setup events. last ≡ all_seen setup events first;
 }
 
 -- what it meets: below it, and of its takers
-abbrev pub RunMeets : {D : Type 0} → Giving D → (D → Bool) → (D → List Disk) → (D → ℕ) → (first : Takers)
+abbrev pub RunMeets : {D : Type 0} → Giving D → DiskFacts D → (first : Takers)
     → (before after : ℕ) → Trouble → Type 0
-RunMeets given tells past faults first before after (TakerIsGone setup events number) =
+RunMeets given facts first before after (TakerIsGone setup events number) =
     is_free number (all_seen setup events first) ≡ false
-RunMeets given tells past faults first before after trouble = Meets given tells past faults before after trouble
+RunMeets given facts first before after trouble = Meets given facts before after trouble
 
 -- Nodes stand for a run, whose takers were the first and are these.
-pub record HoldsAll {D : Type 0} (given : Giving D) (tells : D → Bool) (past : D → List Disk) (faults : D → ℕ) (s : Setup)
-    (first : Takers) (held : Nodes D) (takers : Takers) (run : Run) : Type 0 where
-  pub holds : Holds given tells past faults s held run
+pub record HoldsAll {D : Type 0} (given : Giving D) (facts : DiskFacts D) (s : Setup) (first : Takers) (held : Nodes D)
+    (takers : Takers) (run : Run) : Type 0 where
+  pub holds : Holds given facts s held run
   pub seen : takers ≡ all_seen (setup_in s run) run.events first
   pub gave : GaveFree first (setup_in s run) run.events

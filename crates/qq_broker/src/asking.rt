@@ -31,17 +31,17 @@ fn send<D: NodeDisk, T: Taker>(
 ) -> Result<(), Memory>
     requires may { MayRun setup.now }
     requires holds { (given : Giving D) × ((run : Run)
-        × Holds given D.tells D.past D.faults setup.now nodes.old run) }
+        × Holds given D.facts setup.now nodes.old run) }
     requires client { IsClient session }
     requires short { IsShort key body }
     ensures ok { (given : Giving D) (run : Run) →
-        Holds given D.tells D.past D.faults setup.now nodes.old run →
-        OnOk result (IsServed given D.tells D.past D.faults setup.now run
-        (Send session exchange key body) nodes.new told.old told.new) }
+        Holds given D.facts setup.now nodes.old run →
+        OnOk result (IsServed given D.facts setup.now run (Send session exchange key body) nodes.new
+        told.old told.new) }
     ensures cause { (given : Giving D) (run : Run) (before after : ℕ) →
-        Holds given D.tells D.past D.faults setup.now nodes.old run →
-        IfErr result (IsGivenUp (Meets given D.tells D.past D.faults before after)
-        (setup_in setup.now run) run.events (Send session exchange key body)) }
+        Holds given D.facts setup.now nodes.old run →
+        IfErr result (IsGivenUp (Meets given D.facts before after) (setup_in setup.now run)
+        run.events (Send session exchange key body)) }
 {
     let queues = match targets(alloc, setup, &exchange, &key) {
         Ok(queues) => queues,
@@ -64,16 +64,16 @@ fn publish<D: NodeDisk, T: Taker>(
 ) -> Result<(), Memory>
     requires may { MayRun setup.now }
     requires holds { (given : Giving D) × ((run : Run)
-        × Holds given D.tells D.past D.faults setup.now nodes.old run
+        × Holds given D.facts setup.now nodes.old run
         × IsNamed (setup_in setup.now run) (Publish body)) }
     ensures ok { (given : Giving D) (run : Run) →
-        Holds given D.tells D.past D.faults setup.now nodes.old run →
-        OnOk result (IsServed given D.tells D.past D.faults setup.now run
-        (Publish body) nodes.new told.old told.new) }
+        Holds given D.facts setup.now nodes.old run →
+        OnOk result (IsServed given D.facts setup.now run (Publish body) nodes.new
+        told.old told.new) }
     ensures cause { (given : Giving D) (run : Run) (before after : ℕ) →
-        Holds given D.tells D.past D.faults setup.now nodes.old run →
-        IfErr result (IsGivenUp (Meets given D.tells D.past D.faults before after)
-        (setup_in setup.now run) run.events (Publish body)) }
+        Holds given D.facts setup.now nodes.old run →
+        IfErr result (IsGivenUp (Meets given D.facts before after) (setup_in setup.now run)
+        run.events (Publish body)) }
 {
     let first = &setup.queues.as_slice()[0];
     let key = match first.name.copy(alloc) {
@@ -108,16 +108,14 @@ pub fn ask<D: NodeDisk, T: Taker>(
 ) -> Result<(), Memory>
     requires may { MayRun setup.now }
     requires holds { (given : Giving D) × ((run : Run)
-        × Holds given D.tells D.past D.faults setup.now nodes.old run
-        × IsNamed (setup_in setup.now run) line) }
+        × Holds given D.facts setup.now nodes.old run × IsNamed (setup_in setup.now run) line) }
     ensures ok { (given : Giving D) (run : Run) →
-        Holds given D.tells D.past D.faults setup.now nodes.old run →
-        OnOk result (IsServed given D.tells D.past D.faults setup.now run
-        line nodes.new told.old told.new) }
+        Holds given D.facts setup.now nodes.old run →
+        OnOk result (IsServed given D.facts setup.now run line nodes.new told.old told.new) }
     ensures cause { (given : Giving D) (run : Run) (before after : ℕ) →
-        Holds given D.tells D.past D.faults setup.now nodes.old run →
-        IfErr result (IsGivenUp (Meets given D.tells D.past D.faults before after)
-        (setup_in setup.now run) run.events line) }
+        Holds given D.facts setup.now nodes.old run →
+        IfErr result (IsGivenUp (Meets given D.facts before after) (setup_in setup.now run)
+        run.events line) }
 {
     match line {
         ScriptLine::Nothing => Ok(()),

@@ -49,14 +49,14 @@ pub fn write_audits<D: NodeDisk, O: Sink>(
 ) -> Result<(), PrintFault>
     requires may { MayRun setup.now }
     requires holds { (given : Giving D) × ((run : Run)
-        × Holds given D.tells D.past D.faults setup.now nodes.now run) }
+        × Holds given D.facts setup.now nodes.now run) }
     ensures ok { (given : Giving D) (run : Run) →
-        Holds given D.tells D.past D.faults setup.now nodes.now run →
+        Holds given D.facts setup.now nodes.now run →
         OnOk result (Writes (sink_state O.written O.faults output.old)
         (sink_state O.written O.faults output.new)
         (audits_text (setup_in setup.now run) (cluster_in setup.now run))) }
     ensures err { (given : Giving D) (run : Run) →
-        Holds given D.tells D.past D.faults setup.now nodes.now run →
+        Holds given D.facts setup.now nodes.now run →
         OnErr result (HasSomePrefix (sink_state O.written O.faults output.old)
         (sink_state O.written O.faults output.new)
         (audits_text (setup_in setup.now run) (cluster_in setup.now run))) }

@@ -67,15 +67,13 @@ impl<D: NodeDisk> Broker<D> {
     /// - `cause`: there was no memory, or in the midst of it a number stands at its end.
     pub fn pump<T: Taker>(&mut self, alloc: Global, takers: &mut Desk<T>) -> Result<Pumped, Memory>
         requires { (given : Giving D) × ((run : Run)
-            × Runs given D.tells D.past D.faults self.old run) }
+            × Runs given D.facts self.old run) }
         ensures ok { (given : Giving D) (run : Run) →
-            Runs given D.tells D.past D.faults self.old run →
-            IfOk result (HasPumped given D.tells D.past D.faults self.old self.new run
-            takers.old takers.new) }
+            Runs given D.facts self.old run →
+            IfOk result (HasPumped given D.facts self.old self.new run takers.old takers.new) }
         ensures setup { self.new.setup ≡ self.old.setup }
         ensures cause { (given : Giving D) (run : Run) →
-            Runs given D.tells D.past D.faults self.old run →
-            IfErr result (IsGivenUp (Meets given D.tells D.past D.faults 0 0)
+            Runs given D.facts self.old run → IfErr result (IsGivenUp (Meets given D.facts 0 0)
             (setup_in self.old.setup run) run.events Pump) }
     {
         let mut told = lend(alloc, &mut self.text, takers);
@@ -96,12 +94,12 @@ impl<D: NodeDisk> Broker<D> {
     /// - `count`, `disks`: each disk is its node's, and as it was.
     pub fn crash_all(self, alloc: Global) -> (Vec<D>, Audits<D>)
         requires { (given : Giving D) × ((run : Run)
-            × Runs given D.tells D.past D.faults self run) }
+            × Runs given D.facts self run) }
         ensures rests { (given : Giving D) (run : Run) →
-            Runs given D.tells D.past D.faults self run →
-            Rests given D.tells D.past D.faults (state_of self.setup) result.0.items result.1 run }
+            Runs given D.facts self run →
+            Rests given D.facts (state_of self.setup) result.0.items result.1 run }
         ensures count { length result.0.items ≡ self.setup.nodes }
-        ensures disks { HaveDisks D.tells D.past D.faults result.0.items self.nodes }
+        ensures disks { HaveDisks D.facts result.0.items self.nodes }
     {
         let Broker {
             setup,
@@ -150,15 +148,14 @@ impl<D: NodeDisk> Audits<D> {
     /// - `cause`: `Spent` comes only where a number of the queue that the audit makes would be past its end.
     pub fn write(&self, alloc: Global, queue: QueueId, text: &mut Vec<u8>) -> Result<(), Memory>
         requires { (given : Giving D) × ((t : SetupState) × ((disks : List D) × ((run : Run)
-            × Rests given D.tells D.past D.faults t disks self.now run
+            × Rests given D.facts t disks self.now run
             × Contains (setup_at t run).places queue.0))) }
         ensures ok { (given : Giving D) (t : SetupState) (disks : List D) (run : Run) →
-            Rests given D.tells D.past D.faults t disks self.now run →
-            OnOk result (text.new.items ≡ text.old.items
+            Rests given D.facts t disks self.now run → OnOk result (text.new.items ≡ text.old.items
             ++ audit_text ((setup_at t run).name queue.0) 0 (audit_rows ((cluster_at t run).queue queue.0))) }
         ensures err { OnErr result (IsFront text.old.items text.new.items) }
         ensures cause { (given : Giving D) (t : SetupState) (disks : List D) (run : Run) →
-            Rests given D.tells D.past D.faults t disks self.now run →
+            Rests given D.facts t disks self.now run →
             IfErr result (λ e. SpentOnlyWhere e NUMBER_END
             (IsPastEnd ((cluster_at t run).queue queue.0))) }
     {

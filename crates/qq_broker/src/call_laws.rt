@@ -81,14 +81,14 @@ pub fn a_call_is_given_to_a_ready_leader()
 pub fn a_call_is_the_line_of_its_command<D: NodeDisk>()
     ensures line { (given : Giving D) (old new : Broker D) (run : Run) (session : SessionId)
         (queue : QueueId) (body : Unstamped) (before later : Takers) (called : Called)
-        (so : HasCalled given D.tells D.past D.faults old new run session queue body before later
-        called) → (cluster_in old.setup run).auto ≡ true →
+        (so : HasCalled given D.facts old new run session queue body before later called) →
+        (cluster_in old.setup run).auto ≡ true →
         IsLine (setup_in old.setup run) (Client session queue body) (cluster_in old.setup run)
         so.more }
     ensures takers { (given : Giving D) (old new : Broker D) (run : Run) (session : SessionId)
         (queue : QueueId) (body : Unstamped) (before later : Takers) (called : Called)
-        (so : HasCalled given D.tells D.past D.faults old new run session queue body before later
-        called) → later ≡ hear_on before.heard (takers_after (setup_in old.setup run)
+        (so : HasCalled given D.facts old new run session queue body before later called) →
+        later ≡ hear_on before.heard (takers_after (setup_in old.setup run)
         (cluster_in old.setup run) so.more before) }
 {}
 

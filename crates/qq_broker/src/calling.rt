@@ -131,13 +131,13 @@ fn hand<D: NodeDisk, T: Taker>(
     body: Unstamped,
     told: &mut Told<T>,
 ) -> Result<Vec<Heard>, Memory>
-    requires serve { CanServe D.tells D.past nodes.old }
+    requires serve { CanServe D.facts nodes.old }
     requires queue { IsQueueAt queue nodes.old }
     requires session { 0 < session }
     requires range { MayStamp body }
-    ensures ok { IfOk result (λ list. Hears D.tells D.past D.faults (λ setup. IsGiven session body queue.0)
+    ensures ok { IfOk result (λ list. Hears D.facts (λ setup. IsGiven session body queue.0)
         nodes.old nodes.new told.old told.new list.items) }
-    ensures err { IfErr result (GaveUp D.tells D.past D.faults (λ setup. IsGiven session body queue.0)
+    ensures err { IfErr result (GaveUp D.facts (λ setup. IsGiven session body queue.0)
         nodes.old nodes.new) }
 {
     match nodes.hand(alloc, queue, session, body, told) {
@@ -152,10 +152,10 @@ fn pump<D: NodeDisk, T: Taker>(
     nodes: &mut Nodes<D>,
     told: &mut Told<T>,
 ) -> Result<Vec<Heard>, Memory>
-    requires { CanServe D.tells D.past nodes.old }
-    ensures ok { IfOk result (λ list. Hears D.tells D.past D.faults IsPump
-        nodes.old nodes.new told.old told.new list.items) }
-    ensures err { IfErr result (GaveUp D.tells D.past D.faults IsPump nodes.old nodes.new) }
+    requires { CanServe D.facts nodes.old }
+    ensures ok { IfOk result (λ list. Hears D.facts IsPump nodes.old nodes.new told.old
+        told.new list.items) }
+    ensures err { IfErr result (GaveUp D.facts IsPump nodes.old nodes.new) }
 {
     match nodes.pump(alloc, told) {
         Ok(()) => Ok(take_heard(alloc, told)),
@@ -172,13 +172,13 @@ fn hear_call<D: NodeDisk, T: Taker>(
     body: Unstamped,
     told: &mut Told<T>,
 ) -> Result<Called, Memory>
-    requires serve { CanServe D.tells D.past nodes.old }
+    requires serve { CanServe D.facts nodes.old }
     requires queue { IsQueueAt queue nodes.old }
     requires session { 0 < session }
     requires range { MayStamp body }
-    ensures ok { IfOk result (HearsCall D.tells D.past D.faults session body queue.0
-        nodes.old nodes.new told.old told.new) }
-    ensures err { IfErr result (StopsCall D.tells D.past D.faults session body queue.0 nodes.old) }
+    ensures ok { IfOk result (HearsCall D.facts session body queue.0 nodes.old nodes.new
+        told.old told.new) }
+    ensures err { IfErr result (StopsCall D.facts session body queue.0 nodes.old) }
 {
     let asked = match hand(alloc, nodes, queue, session, body, told) {
         Ok(asked) => asked,
@@ -217,18 +217,17 @@ impl<D: NodeDisk> Broker<D> {
         takers: &mut Desk<T>,
     ) -> Result<Called, Memory>
         requires { (given : Giving D) × ((run : Run)
-            × Runs given D.tells D.past D.faults self.old run
+            × Runs given D.facts self.old run
             × IsNamed (setup_in self.old.setup run) (Client session queue body)) }
         ensures ok { (given : Giving D) (run : Run) →
-            Runs given D.tells D.past D.faults self.old run →
-            IfOk result (HasCalled given D.tells D.past D.faults self.old self.new run
-            session queue body takers.old takers.new) }
+            Runs given D.facts self.old run →
+            IfOk result (HasCalled given D.facts self.old self.new run session queue body
+            takers.old takers.new) }
         ensures heard { takers.new.heard ≡ takers.old.heard }
         ensures text { self.new.text ≡ self.old.text }
         ensures setup { self.new.setup ≡ self.old.setup }
         ensures cause { (given : Giving D) (run : Run) →
-            Runs given D.tells D.past D.faults self.old run →
-            IfErr result (IsCallGivenUp (Meets given D.tells D.past D.faults 0 0)
+            Runs given D.facts self.old run → IfErr result (IsCallGivenUp (Meets given D.facts 0 0)
             (setup_in self.old.setup run) run.events session.number body queue.0) }
     {
         who_listens_hears_what_is_told();
@@ -253,10 +252,9 @@ impl<D: NodeDisk> Broker<D> {
     /// cancelled. None exactly where no leader is ready.
     pub fn counts(&self, queue: QueueId) -> Option<(u64, u32)>
         requires { (given : Giving D) × ((run : Run)
-            × Runs given D.tells D.past D.faults self.now run
-            × IsPlace (setup_in self.now.setup run) queue) }
+            × Runs given D.facts self.now run × IsPlace (setup_in self.now.setup run) queue) }
         ensures { (given : Giving D) (run : Run) →
-            Runs given D.tells D.past D.faults self.now run →
+            Runs given D.facts self.now run →
             result ≡ counts ((cluster_in self.now.setup run).queue queue.0) }
     {
         self.nodes.counts(queue)

@@ -54,17 +54,18 @@ use qq_wal_chain::{a_crash_without_junk_keeps_the_promise, an_empty_disk_keeps_t
 /// - `handed`: of disks that were handed in it is at the node's place, from 1 on.
 pub fn a_given_disk_was_just_opened<D: NodeDisk>()
     ensures asked { (is_given : Option (List ℕ) → ℕ → D → Bool) (root : Option (List ℕ)) (k : ℕ)
-        (disk : D) → IsGiven (under is_given root) D.tells D.past k disk →
-        is_given root k disk ≡ true }
+        (disk : D) → IsGiven (under is_given root) D.facts k disk → is_given root k disk ≡ true }
     ensures opened { (is_given : Option (List ℕ) → ℕ → D → Bool) (root : Option (List ℕ)) (k : ℕ)
-        (disk : D) → IsGiven (under is_given root) D.tells D.past k disk →
-        IsTrue (D.tells disk) → (length (D.past disk) ≡ 1) × ((image : Remains) (file : FileName) →
-        IsImage (now (D.past disk)) image → image file ≡ contents (now (D.past disk)) file) }
+        (disk : D) → IsGiven (under is_given root) D.facts k disk →
+        IsTrue (D.facts.tells disk) → (length (D.facts.past disk) ≡ 1)
+        × ((image : Remains) (file : FileName) →
+        IsImage (now (D.facts.past disk)) image → image file
+        ≡ contents (now (D.facts.past disk)) file) }
     ensures new { (is_given : Option (List ℕ) → ℕ → D → Bool) (k : ℕ) (disk : D) →
-        IsGiven (under is_given None) D.tells D.past k disk → IsTrue (D.tells disk) →
-        D.past disk ≡ (λ file. None) ∷ [] }
+        IsGiven (under is_given None) D.facts k disk → IsTrue (D.facts.tells disk) →
+        D.facts.past disk ≡ (λ file. None) ∷ [] }
     ensures handed { (disks : List D) (k : ℕ) (disk : D) →
-        IsGiven (ByHand disks) D.tells D.past k disk →
+        IsGiven (ByHand disks) D.facts k disk →
         (before : ℕ) × (k ≡ before + 1) × (slice_get disks before ≡ Some disk) }
 {}
 
@@ -78,37 +79,37 @@ pub fn a_given_disk_was_just_opened<D: NodeDisk>()
 pub fn a_crash_leaves_the_named_image<D: NodeDisk>()
     ensures yard { (is_given : Option (List ℕ) → ℕ → D → Bool) (root : Option (List ℕ))
         (setup : Setup) (early since : List ClusterEvent) (k : ℕ) (image : Image) (last : D) →
-        HasNoCrash k since → Became (under is_given root) D.tells D.past D.faults setup
+        HasNoCrash k since → Became (under is_given root) D.facts setup
         (early ++ Crashes k image ∷ since) k last →
         (old : D) × ((new : D)
-        × Became (under is_given root) D.tells D.past D.faults setup early k old
-        × ((D.tells new ≡ D.tells old)
-        × (IsTrue (D.tells old) → (newest : Option FileName)
-        × IsNewestLog (now (D.past old)) image.removed_back newest
-        × (D.past new ≡ reopen (image_of image newest (now (D.past old))) ∷ [])))
-        × (D.tells last ≡ D.tells new)
-        × ((D.faults new + length (filter (is_failure_at k) since) ≤ D.faults last)
-        ⊎ (2 ^ 64 - 1 ≤ D.faults last))
+        × Became (under is_given root) D.facts setup early k old
+        × ((D.facts.tells new ≡ D.facts.tells old)
+        × (IsTrue (D.facts.tells old) → (newest : Option FileName)
+        × IsNewestLog (now (D.facts.past old)) image.removed_back newest
+        × (D.facts.past new ≡ reopen (image_of image newest (now (D.facts.past old))) ∷ [])))
+        × (D.facts.tells last ≡ D.facts.tells new)
+        × ((D.facts.faults new + length (filter (is_failure_at k) since) ≤ D.facts.faults last)
+        ⊎ (2 ^ 64 - 1 ≤ D.facts.faults last))
         × (let crashed = cluster_happens (cluster_after (new_cluster setup) early) (Crashes k image)
-        in IsTrue (D.tells new) → IsLinked setup crashed k (now (D.past new)) →
-        Adds (IsPromisedSince setup crashed k since) (D.past new) (D.past last)
-        × IsLinked setup (cluster_after crashed since) k (now (D.past last)))) }
+        in IsTrue (D.facts.tells new) → IsLinked setup crashed k (now (D.facts.past new)) →
+        Adds (IsPromisedSince setup crashed k since) (D.facts.past new) (D.facts.past last)
+        × IsLinked setup (cluster_after crashed since) k (now (D.facts.past last)))) }
     ensures hand { (disks : List D) (setup : Setup)
         (early since : List ClusterEvent) (k : ℕ) (image : Image) (last : D) → HasNoCrash k since →
-        Became (ByHand disks) D.tells D.past D.faults setup
-        (early ++ Crashes k image ∷ since) k last →
-        (old : D) × ((new : D) × Became (ByHand disks) D.tells D.past D.faults setup early k old
-        × (((D.tells new ≡ D.tells old)
-        × (IsTrue (D.tells old) → (newest : Option FileName)
-        × IsNewestLog (now (D.past old)) image.removed_back newest
-        × (D.past new ≡ reopen (image_of image newest (now (D.past old))) ∷ []))) ⊎ (new ≡ old))
-        × (D.tells last ≡ D.tells new)
-        × ((D.faults new + length (filter (is_failure_at k) since) ≤ D.faults last)
-        ⊎ (2 ^ 64 - 1 ≤ D.faults last))
+        Became (ByHand disks) D.facts setup (early ++ Crashes k image ∷ since) k last →
+        (old : D) × ((new : D) × Became (ByHand disks) D.facts setup early k old
+        × (((D.facts.tells new ≡ D.facts.tells old)
+        × (IsTrue (D.facts.tells old) → (newest : Option FileName)
+        × IsNewestLog (now (D.facts.past old)) image.removed_back newest
+        × (D.facts.past new ≡ reopen (image_of image newest (now (D.facts.past old))) ∷ [])))
+        ⊎ (new ≡ old))
+        × (D.facts.tells last ≡ D.facts.tells new)
+        × ((D.facts.faults new + length (filter (is_failure_at k) since) ≤ D.facts.faults last)
+        ⊎ (2 ^ 64 - 1 ≤ D.facts.faults last))
         × (let crashed = cluster_happens (cluster_after (new_cluster setup) early) (Crashes k image)
-        in IsTrue (D.tells new) → IsLinked setup crashed k (now (D.past new)) →
-        Adds (IsPromisedSince setup crashed k since) (D.past new) (D.past last)
-        × IsLinked setup (cluster_after crashed since) k (now (D.past last)))) }
+        in IsTrue (D.facts.tells new) → IsLinked setup crashed k (now (D.facts.past new)) →
+        Adds (IsPromisedSince setup crashed k since) (D.facts.past new) (D.facts.past last)
+        × IsLinked setup (cluster_after crashed since) k (now (D.facts.past last)))) }
 {}
 
 /// A law: that a call of a node's disk has failed is said only where that disk has counted it.
@@ -124,35 +125,36 @@ pub fn a_crash_leaves_the_named_image<D: NodeDisk>()
 pub fn a_node_fails_only_where_its_disk_did<D: NodeDisk>()
     ensures rose { (given : Giving D) (setup : Setup) (events : List ClusterEvent) (k : ℕ)
         (last : D) → In (Fails k) events →
-        Became given D.tells D.past D.faults setup events k last →
+        Became given D.facts setup events k last →
         (behind : List ClusterEvent) × ((since : List ClusterEvent) × ((rest : List ClusterEvent)
         × (events ≡ behind ++ (since ++ rest)) × HasNoCrash k since × (fails_at k since ≡ true)
         × ((before : D) × ((after : D)
-        × Became given D.tells D.past D.faults setup behind k before
-        × Became given D.tells D.past D.faults setup (behind ++ since) k after
-        × (D.tells after ≡ D.tells before)
-        × ((D.faults before < D.faults after) ⊎ (2 ^ 64 - 1 ≤ D.faults after)))))) }
+        × Became given D.facts setup behind k before
+        × Became given D.facts setup (behind ++ since) k after
+        × (D.facts.tells after ≡ D.facts.tells before)
+        × ((D.facts.faults before < D.facts.faults after)
+        ⊎ (2 ^ 64 - 1 ≤ D.facts.faults after)))))) }
     ensures printed { (given : Giving D) (setup : Setup) (events : List ClusterEvent) (k : ℕ)
         (last : D) → In (Stopped k) (all_prints setup (new_cluster setup) events) →
-        Became given D.tells D.past D.faults setup events k last →
-        (before : D) × ((after : D) × (D.tells after ≡ D.tells before)
-        × ((D.faults before < D.faults after) ⊎ (2 ^ 64 - 1 ≤ D.faults after))) }
+        Became given D.facts setup events k last →
+        (before : D) × ((after : D) × (D.facts.tells after ≡ D.facts.tells before)
+        × ((D.facts.faults before < D.facts.faults after) ⊎ (2 ^ 64 - 1 ≤ D.facts.faults after))) }
     ensures never { (given : Giving D) (setup : Setup) (events : List ClusterEvent) (k : ℕ)
-        (last : D) → ((before after : D) → D.faults before < D.faults after → ⊥) →
-        ((disk : D) → 2 ^ 64 - 1 ≤ D.faults disk → ⊥) →
-        Became given D.tells D.past D.faults setup events k last → In (Fails k) events → ⊥ }
+        (last : D) → ((before after : D) → D.facts.faults before < D.facts.faults after → ⊥) →
+        ((disk : D) → 2 ^ 64 - 1 ≤ D.facts.faults disk → ⊥) →
+        Became given D.facts setup events k last → In (Fails k) events → ⊥ }
     ensures often { (given : Giving D) (setup : Setup) (events : List ClusterEvent) (k : ℕ)
         (last : D) → HasNoCrash k events →
-        Became given D.tells D.past D.faults setup events k last →
-        (first : D) × IsGiven given D.tells D.past k first
-        × ((D.faults first + length (filter (is_failure_at k) events) ≤ D.faults last)
-        ⊎ (2 ^ 64 - 1 ≤ D.faults last)) }
+        Became given D.facts setup events k last → (first : D) × IsGiven given D.facts k first
+        × ((D.facts.faults first + length (filter (is_failure_at k) events) ≤ D.facts.faults last)
+        ⊎ (2 ^ 64 - 1 ≤ D.facts.faults last)) }
     ensures yard { (given : Giving D) (before after : ℕ) →
-        Meets given D.tells D.past D.faults before after YardFails → Rose before after }
+        Meets given D.facts before after YardFails → Rose before after }
     ensures met { (given : Giving D) (before after k : ℕ) →
-        Meets given D.tells D.past D.faults before after (DiskFails k) →
-        (first : D) × ((last : D) × IsGiven given D.tells D.past k first
-        × (D.tells last ≡ D.tells first) × Rose (D.faults first) (D.faults last)) }
+        Meets given D.facts before after (DiskFails k) →
+        (first : D) × ((last : D) × IsGiven given D.facts k first
+        × (D.facts.tells last ≡ D.facts.tells first)
+        × Rose (D.facts.faults first) (D.facts.faults last)) }
 {}
 
 /// A law: a node's disk that shows its contents keeps what the node's log has promised of each queue, and while the
@@ -164,28 +166,29 @@ pub fn a_node_fails_only_where_its_disk_did<D: NodeDisk>()
 pub fn disks_keep_what_was_promised<D: NodeDisk>()
     ensures new { (given : Giving D) (setup : Setup) (events : List ClusterEvent) (k : ℕ)
         (last : D) → HasGroups setup →
-        ((disk : D) → IsGiven given D.tells D.past k disk → IsTrue (D.tells disk) →
-        D.past disk ≡ (λ file. None) ∷ []) →
-        IsTrue (D.tells last) →
+        ((disk : D) → IsGiven given D.facts k disk → IsTrue (D.facts.tells disk) →
+        D.facts.past disk ≡ (λ file. None) ∷ []) →
+        IsTrue (D.facts.tells last) →
         is_some (first_restart k events) ≡ true →
         ((image : Image) → In (Crashes k image) events → HasNoJunk image) →
-        Became given D.tells D.past D.faults setup events k last →
-        IsLinked setup (cluster_after (new_cluster setup) events) k (now (D.past last)) }
+        Became given D.facts setup events k last →
+        IsLinked setup (cluster_after (new_cluster setup) events) k (now (D.facts.past last)) }
     ensures begun { (given : Giving D) (setup : Setup) (events : List ClusterEvent) (k : ℕ)
-        (last : D) → ((first : D) → IsGiven given D.tells D.past k first → IsTrue (D.tells first) →
-        IsPromised setup (new_cluster setup) k (now (D.past first))) → IsTrue (D.tells last) →
+        (last : D) → ((first : D) → IsGiven given D.facts k first → IsTrue (D.facts.tells first) →
+        IsPromised setup (new_cluster setup) k (now (D.facts.past first))) →
+        IsTrue (D.facts.tells last) →
         ((image : Image) → In (Crashes k image) events → HasNoJunk image) →
-        Became given D.tells D.past D.faults setup events k last →
-        IsLinked setup (cluster_after (new_cluster setup) events) k (now (D.past last)) }
+        Became given D.facts setup events k last →
+        IsLinked setup (cluster_after (new_cluster setup) events) k (now (D.facts.past last)) }
     ensures run { (given : Giving D) (first : Takers) (s : ScriptSetup) (all left : List Input)
-        (b : Behind (RunHad given D.tells D.past D.faults first) s all left) →
-        ((k : ℕ) (disk : D) → IsGiven given D.tells D.past k disk → IsTrue (D.tells disk) →
-        D.past disk ≡ (λ file. None) ∷ []) →
-        ((disk : D) → IsTrue (D.tells disk)) →
+        (b : Behind (RunHad given D.facts first) s all left) →
+        ((k : ℕ) (disk : D) → IsGiven given D.facts k disk → IsTrue (D.facts.tells disk) →
+        D.facts.past disk ≡ (λ file. None) ∷ []) →
+        ((disk : D) → IsTrue (D.facts.tells disk)) →
         ((nodes : Nodes) (image : Image) → In (Crash nodes image) b.lines → HasNoJunk image) →
         (k : ℕ) → In k (setup_behind b).nodes → (last : D)
-        × Became given D.tells D.past D.faults (setup_behind b) b.events k last
-        × IsLinked (setup_behind b) (cluster_behind b) k (now (D.past last)) }
+        × Became given D.facts (setup_behind b) b.events k last
+        × IsLinked (setup_behind b) (cluster_behind b) k (now (D.facts.past last)) }
 {
     an_empty_disk_keeps_the_promise();
     a_promised_disk_is_read();
@@ -199,23 +202,24 @@ pub fn disks_keep_what_was_promised<D: NodeDisk>()
 /// - `answers`: the entry of each answer that was printed is in the logs of a majority.
 pub fn a_run_keeps_what_it_has_answered<D: NodeDisk>()
     ensures audits { (given : Giving D) (first : Takers) (s : ScriptSetup) (all left : List Input)
-        (b : Behind (RunHad given D.tells D.past D.faults first) s all left) (disks : ℕ → D) →
-        ((k : ℕ) (disk : D) → IsGiven given D.tells D.past k disk → IsTrue (D.tells disk) →
-        D.past disk ≡ (λ file. None) ∷ []) →
-        ((disk : D) → IsTrue (D.tells disk)) →
+        (b : Behind (RunHad given D.facts first) s all left) (disks : ℕ → D) →
+        ((k : ℕ) (disk : D) → IsGiven given D.facts k disk → IsTrue (D.facts.tells disk) →
+        D.facts.past disk ≡ (λ file. None) ∷ []) →
+        ((disk : D) → IsTrue (D.facts.tells disk)) →
         ((nodes : Nodes) (image : Image) → In (Crash nodes image) b.lines → HasNoJunk image) →
         ((k : ℕ) → In k (setup_behind b).nodes →
-        Became given D.tells D.past D.faults (setup_behind b) b.events k (disks k)) →
-        Supports (setup_behind b) b.begins.groups (cluster_behind b) (λ k. now (D.past (disks k))) }
+        Became given D.facts (setup_behind b) b.events k (disks k)) →
+        Supports (setup_behind b) b.begins.groups (cluster_behind b)
+        (λ k. now (D.facts.past (disks k))) }
     ensures answers { (given : Giving D) (first : Takers) (s : ScriptSetup) (all left : List Input)
-        (b : Behind (RunHad given D.tells D.past D.faults first) s all left) (disks : ℕ → D) →
-        ((k : ℕ) (disk : D) → IsGiven given D.tells D.past k disk → IsTrue (D.tells disk) →
-        D.past disk ≡ (λ file. None) ∷ []) →
-        ((disk : D) → IsTrue (D.tells disk)) →
+        (b : Behind (RunHad given D.facts first) s all left) (disks : ℕ → D) →
+        ((k : ℕ) (disk : D) → IsGiven given D.facts k disk → IsTrue (D.facts.tells disk) →
+        D.facts.past disk ≡ (λ file. None) ∷ []) →
+        ((disk : D) → IsTrue (D.facts.tells disk)) →
         ((nodes : Nodes) (image : Image) → In (Crash nodes image) b.lines → HasNoJunk image) →
         ((k : ℕ) → In k (setup_behind b).nodes →
-        Became given D.tells D.past D.faults (setup_behind b) b.events k (disks k)) →
-        KeepsAnswers (setup_behind b) b.events (λ k. now (D.past (disks k))) }
+        Became given D.facts (setup_behind b) b.events k (disks k)) →
+        KeepsAnswers (setup_behind b) b.events (λ k. now (D.facts.past (disks k))) }
 {
     an_empty_disk_keeps_the_promise();
     a_promised_disk_is_read();
@@ -230,14 +234,14 @@ pub fn a_run_keeps_what_it_has_answered<D: NodeDisk>()
 pub fn a_restart_finds_what_the_disk_reads<D: NodeDisk>()
     ensures { (given : Giving D) (setup : Setup) (events : List ClusterEvent) (k : ℕ) (ops : ℕ → ℕ)
         (last : D) → HasGroups setup →
-        ((disk : D) → IsGiven given D.tells D.past k disk → IsTrue (D.tells disk) →
-        D.past disk ≡ (λ file. None) ∷ []) →
-        IsTrue (D.tells last) →
+        ((disk : D) → IsGiven given D.facts k disk → IsTrue (D.facts.tells disk) →
+        D.facts.past disk ≡ (λ file. None) ∷ []) →
+        IsTrue (D.facts.tells last) →
         ((image : Image) → In (Crashes k image) events → HasNoJunk image) →
-        Became given D.tells D.past D.faults setup (events ++ FindsEach k ops ∷ []) k last →
+        Became given D.facts setup (events ++ FindsEach k ops ∷ []) k last →
         let c = cluster_after (new_cluster setup) events in
         (read : List Disk) × ((later : List Disk) × ((lanes : Lanes)
-        × (D.past last ≡ later ++ read) × IsPromised setup c k (now read)
+        × (D.facts.past last ≡ later ++ read) × IsPromised setup c k (now read)
         × (lanes_read (ids_of (lot_of setup k)) (shown (now read)) ≡ Ok lanes)
         × ((place : ℕ) → In place (lot_of setup k).places →
         stable (take (ops place) ((c.queue place).group.seat k).ops)
@@ -254,25 +258,27 @@ pub fn a_restart_finds_what_the_disk_reads<D: NodeDisk>()
 /// - `queue`: what is found of a queue recovery has read.
 pub fn what_is_met_is_what_recovery_reads<D: NodeDisk>()
     ensures place { (given : Giving D) (before after : ℕ) (setup : Setup)
-        (events : List ClusterEvent) (k number place : ℕ) → ((disk : D) → IsTrue (D.tells disk)) →
-        Meets given D.tells D.past D.faults before after
-        (FilesBreak setup events k (AtPlace number place)) →
-        (last : D) × ((file : FileName) × Became given D.tells D.past D.faults setup events k last
-        × (file.number ≡ number) × (lanes_read (ids_of (lot_of setup k)) (shown (now (D.past last)))
+        (events : List ClusterEvent) (k number place : ℕ) →
+        ((disk : D) → IsTrue (D.facts.tells disk)) →
+        Meets given D.facts before after (FilesBreak setup events k (AtPlace number place)) →
+        (last : D) × ((file : FileName) × Became given D.facts setup events k last
+        × (file.number ≡ number) × (lanes_read (ids_of (lot_of setup k))
+        (shown (now (D.facts.past last)))
         ≡ Err (Damaged file place))) }
     ensures version { (given : Giving D) (before after : ℕ) (setup : Setup)
-        (events : List ClusterEvent) (k number byte : ℕ) → ((disk : D) → IsTrue (D.tells disk)) →
-        Meets given D.tells D.past D.faults before after
-        (FilesBreak setup events k (OfVersion number byte)) →
-        (last : D) × ((file : FileName) × Became given D.tells D.past D.faults setup events k last
-        × (file.number ≡ number) × (lanes_read (ids_of (lot_of setup k)) (shown (now (D.past last)))
+        (events : List ClusterEvent) (k number byte : ℕ) →
+        ((disk : D) → IsTrue (D.facts.tells disk)) →
+        Meets given D.facts before after (FilesBreak setup events k (OfVersion number byte)) →
+        (last : D) × ((file : FileName) × Became given D.facts setup events k last
+        × (file.number ≡ number) × (lanes_read (ids_of (lot_of setup k))
+        (shown (now (D.facts.past last)))
         ≡ Err (Version file byte))) }
     ensures queue { (given : Giving D) (before after : ℕ) (setup : Setup)
         (events : List ClusterEvent) (k place : ℕ) (lane : Stable) →
-        ((disk : D) → IsTrue (D.tells disk)) →
-        Meets given D.tells D.past D.faults before after (QueueIsFound setup events k place lane) →
-        (last : D) × ((lanes : Lanes) × Became given D.tells D.past D.faults setup events k last
-        × (lanes_read (ids_of (lot_of setup k)) (shown (now (D.past last))) ≡ Ok lanes)
+        ((disk : D) → IsTrue (D.facts.tells disk)) →
+        Meets given D.facts before after (QueueIsFound setup events k place lane) →
+        (last : D) × ((lanes : Lanes) × Became given D.facts setup events k last
+        × (lanes_read (ids_of (lot_of setup k)) (shown (now (D.facts.past last))) ≡ Ok lanes)
         × (lane ≡ state_in lanes (setup.args place).queue)) }
 {}
 
@@ -285,28 +291,28 @@ pub fn what_is_met_is_what_recovery_reads<D: NodeDisk>()
 pub fn without_junk_nothing_is_damaged_or_lost<D: NodeDisk>()
     ensures damaged { (given : Giving D) (before after : ℕ) (setup : Setup)
         (events : List ClusterEvent) (k : ℕ) (damage : Damage) → HasGroups setup →
-        ((disk : D) → IsGiven given D.tells D.past k disk → IsTrue (D.tells disk) →
-        D.past disk ≡ (λ file. None) ∷ []) →
-        ((disk : D) → IsTrue (D.tells disk)) →
+        ((disk : D) → IsGiven given D.facts k disk → IsTrue (D.facts.tells disk) →
+        D.facts.past disk ≡ (λ file. None) ∷ []) →
+        ((disk : D) → IsTrue (D.facts.tells disk)) →
         ((image : Image) → In (Crashes k image) events → HasNoJunk image) →
-        Meets given D.tells D.past D.faults before after (FilesBreak setup events k damage) → ⊥ }
+        Meets given D.facts before after (FilesBreak setup events k damage) → ⊥ }
     ensures nothing { (given : Giving D) (before after : ℕ) (setup : Setup)
         (events : List ClusterEvent) (k place : ℕ) (lane : Stable) →
-        ((disk : D) → IsGiven given D.tells D.past k disk → IsTrue (D.tells disk) →
-        D.past disk ≡ (λ file. None) ∷ []) →
-        ((disk : D) → IsTrue (D.tells disk)) → first_restart k events ≡ None →
-        Meets given D.tells D.past D.faults before after (QueueIsFound setup events k place lane) →
+        ((disk : D) → IsGiven given D.facts k disk → IsTrue (D.facts.tells disk) →
+        D.facts.past disk ≡ (λ file. None) ∷ []) →
+        ((disk : D) → IsTrue (D.facts.tells disk)) → first_restart k events ≡ None →
+        Meets given D.facts before after (QueueIsFound setup events k place lane) →
         lane ≡ new_state }
     ensures lost { (given : Giving D) (before after : ℕ) (setup : Setup)
         (events : List ClusterEvent) (k place : ℕ) (lane : Stable) → HasGroups setup →
-        ((disk : D) → IsGiven given D.tells D.past k disk → IsTrue (D.tells disk) →
-        D.past disk ≡ (λ file. None) ∷ []) →
-        ((disk : D) → IsTrue (D.tells disk)) →
+        ((disk : D) → IsGiven given D.facts k disk → IsTrue (D.facts.tells disk) →
+        D.facts.past disk ≡ (λ file. None) ∷ []) →
+        ((disk : D) → IsTrue (D.facts.tells disk)) →
         is_some (first_restart k events) ≡ true →
         ((image : Image) → In (Crashes k image) events → HasNoJunk image) →
         let c = cluster_after (new_cluster setup) events in
         c.up k ≡ false → MembersFollow setup c k → In place (lot_of setup k).places →
-        Meets given D.tells D.past D.faults before after (QueueIsFound setup events k place lane) →
+        Meets given D.facts before after (QueueIsFound setup events k place lane) →
         (may_restart k lane.op (c.queue place).group ≡ true)
         × (stable (take lane.op ((c.queue place).group.seat k).ops) ≡ Some lane) }
 {
@@ -321,13 +327,13 @@ pub fn a_run_without_junk_is_neither_damaged_nor_lost<D: NodeDisk>()
     ensures { (given : Giving D) (first last : Takers) (status : ℕ) (s : ScriptSetup)
         (begun ended : Streams) (bytes : List ℕ) (before after : ℕ) →
         begun.source.left ≡ Some bytes → IsRunnable (state_of s) →
-        ((k : ℕ) (disk : D) → IsGiven given D.tells D.past k disk → IsTrue (D.tells disk) →
-        D.past disk ≡ (λ file. None) ∷ []) →
-        ((disk : D) → IsTrue (D.tells disk)) →
+        ((k : ℕ) (disk : D) → IsGiven given D.facts k disk → IsTrue (D.facts.tells disk) →
+        D.facts.past disk ≡ (λ file. None) ∷ []) →
+        ((disk : D) → IsTrue (D.facts.tells disk)) →
         ((lines : ℕ) (input : Input) (nodes : Nodes) (image : Image) → In input (inputs_of bytes) →
         says s lines input ≡ Asks (Crash nodes image) → HasNoJunk image) →
-        HasRun status s begun ended (RunMeets given D.tells D.past D.faults first before after)
-        (RunClaims given D.tells D.past D.faults first last) → (status ≡ 8) ⊎ (status ≡ 9) → ⊥ }
+        HasRun status s begun ended (RunMeets given D.facts first before after)
+        (RunClaims given D.facts first last) → (status ≡ 8) ⊎ (status ≡ 9) → ⊥ }
 {
     clusters_begin_with_new_logs();
     what_waits_goes_on();

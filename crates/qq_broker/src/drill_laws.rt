@@ -32,52 +32,52 @@ use qq_disk::NodeDisk;
 pub fn a_drill_tells_what_was_done<D: NodeDisk>()
     ensures statuses { (given : Giving D) (status number nodes : ℕ) (before later : Streams)
         (yard yard' : ℕ) → DrillEnds status number nodes before later
-        (Meets given D.tells D.past D.faults yard yard') (Had given D.tells D.past D.faults) →
+        (Meets given D.facts yard yard') (Had given D.facts) →
         (status ≡ 0) ⊎ ((status ≡ 6) ⊎ ((status ≡ 7) ⊎ ((status ≡ 8) ⊎ ((status ≡ 9)
         ⊎ ((status ≡ 12) ⊎ (status ≡ 20)))))) }
     ensures unread { (given : Giving D) (status number nodes : ℕ) (before later : Streams)
         (yard yard' : ℕ) → DrillEnds status number nodes before later
-        (Meets given D.tells D.past D.faults yard yard') (Had given D.tells D.past D.faults) →
+        (Meets given D.facts yard yard') (Had given D.facts) →
         Keeps before.source.left later.source.left }
     ensures done { (given : Giving D) (number nodes : ℕ) (before later : Streams)
         (yard yard' : ℕ) → DrillEnds 0 number nodes before later
-        (Meets given D.tells D.past D.faults yard yard') (Had given D.tells D.past D.faults) →
+        (Meets given D.facts yard yard') (Had given D.facts) →
         (s : Setup) × (state_of s ≡ drill_setup nodes)
-        × ((whole : Drilled (Had given D.tells D.past D.faults) s number (parts s.nodes))
+        × ((whole : Drilled (Had given D.facts) s number (parts s.nodes))
         × Appends before.sink.written later.sink.written
         (drill_text number (setup_drilled whole) (cluster_drilled whole) whole.known)) }
     ensures cut { (given : Giving D) (number nodes : ℕ) (before later : Streams)
         (yard yard' : ℕ) → DrillEnds 6 number nodes before later
-        (Meets given D.tells D.past D.faults yard yard') (Had given D.tells D.past D.faults) →
+        (Meets given D.facts yard yard') (Had given D.facts) →
         Rose before.sink.faults later.sink.faults }
     ensures failed { (given : Giving D) (number nodes : ℕ) (before later : Streams)
         (yard yard' : ℕ) → DrillEnds 7 number nodes before later
-        (Meets given D.tells D.past D.faults yard yard') (Had given D.tells D.past D.faults) →
-        (Rose yard yard' ⊎ ((node : ℕ) × ((disk : D) × IsGiven given D.tells D.past node disk
-        × ((last : D) × Rose (D.faults disk) (D.faults last)))))
+        (Meets given D.facts yard yard') (Had given D.facts) →
+        (Rose yard yard' ⊎ ((node : ℕ) × ((disk : D) × IsGiven given D.facts node disk
+        × ((last : D) × Rose (D.facts.faults disk) (D.facts.faults last)))))
         × Appends before.sink.written later.sink.written (codes "yard fault\n") }
     ensures broken { (given : Giving D) (number nodes : ℕ) (before later : Streams)
         (yard yard' : ℕ) → DrillEnds 8 number nodes before later
-        (Meets given D.tells D.past D.faults yard yard') (Had given D.tells D.past D.faults) →
+        (Meets given D.facts yard yard') (Had given D.facts) →
         (setup : ClusterSetup) × ((events : List ClusterEvent) × ((node : ℕ) × ((damage : Damage)
-        × IsBroken given D.tells D.past D.faults setup events node damage
+        × IsBroken given D.facts setup events node damage
         × Appends before.sink.written later.sink.written (damage_ending node damage).text))) }
     ensures lost { (given : Giving D) (number nodes : ℕ) (before later : Streams)
         (yard yard' : ℕ) → DrillEnds 9 number nodes before later
-        (Meets given D.tells D.past D.faults yard yard') (Had given D.tells D.past D.faults) →
+        (Meets given D.facts yard yard') (Had given D.facts) →
         (setup : ClusterSetup) × ((events : List ClusterEvent) × ((node : ℕ) × ((place : ℕ)
         × ((lane : Stable) × ((noticed : ℕ)
-        × HoldsQueue given D.tells D.past D.faults setup events node place lane
+        × HoldsQueue given D.facts setup events node place lane
         × Appends before.sink.written later.sink.written
         (lost node (setup.name place) noticed lane.op).text))))) }
     ensures starved { (given : Giving D) (number nodes : ℕ) (before later : Streams)
         (yard yard' : ℕ) → DrillEnds 12 number nodes before later
-        (Meets given D.tells D.past D.faults yard yard') (Had given D.tells D.past D.faults) →
+        (Meets given D.facts yard yard') (Had given D.facts) →
         Appends before.sink.written later.sink.written (codes "memory\n") }
     ensures spent { (given : Giving D) (number nodes : ℕ) (before later : Streams)
         (yard yard' : ℕ) → DrillEnds 20 number nodes before later
-        (Meets given D.tells D.past D.faults yard yard') (Had given D.tells D.past D.faults) →
+        (Meets given D.facts yard yard') (Had given D.facts) →
         (setup : ClusterSetup) × ((events : List ClusterEvent) × ((most : ℕ)
-        × HasNumber given D.tells D.past D.faults setup events most × IsAtEnd most
+        × HasNumber given D.facts setup events most × IsAtEnd most
         × Appends before.sink.written later.sink.written (spent most).text)) }
 {}

@@ -57,18 +57,15 @@ fn play_line<Y: Yard, T: Taker>(
 ) -> Result<(), AskStop>
     requires may { MayRun setup.now }
     requires plays { (given : Giving Y.Disk) × ((run : Run) × ((k : Known)
-        × Plays given Y.Disk.tells Y.Disk.past Y.Disk.faults setup.now run nodes.old told.old
-        play.old k)) }
+        × Plays given Y.Disk.facts setup.now run nodes.old told.old play.old k)) }
     ensures ok { (given : Giving Y.Disk) (run : Run) (k : Known) →
-        Plays given Y.Disk.tells Y.Disk.past Y.Disk.faults setup.now run nodes.old told.old
-        play.old k →
-        OnOk result (LinesServed given Y.Disk.tells Y.Disk.past Y.Disk.faults setup.now run
-        (line ∷ []) k nodes.new told.new play.new) }
+        Plays given Y.Disk.facts setup.now run nodes.old told.old play.old k →
+        OnOk result (LinesServed given Y.Disk.facts setup.now run (line ∷ []) k nodes.new
+        told.new play.new) }
     ensures cause { (given : Giving Y.Disk) (run : Run) (k : Known) →
-        Plays given Y.Disk.tells Y.Disk.past Y.Disk.faults setup.now run nodes.old told.old
-        play.old k →
-        IfErr result (λ stop. StopsNext (Meets given Y.Disk.tells Y.Disk.past Y.Disk.faults
-        (Y.faults yard.old) (Y.faults yard.new)) (setup_in setup.now run) run.events (line ∷ [])
+        Plays given Y.Disk.facts setup.now run nodes.old told.old play.old k →
+        IfErr result (λ stop. StopsNext (Meets given Y.Disk.facts (Y.faults yard.old)
+        (Y.faults yard.new)) (setup_in setup.now run) run.events (line ∷ [])
         (ending_at stop)) }
     ensures later { Y.faults yard.old ≤ Y.faults yard.new }
 {
@@ -99,18 +96,15 @@ fn play_lines<Y: Yard, T: Taker>(
 ) -> Result<(), AskStop>
     requires may { MayRun setup.now }
     requires plays { (given : Giving Y.Disk) × ((run : Run) × ((k : Known)
-        × Plays given Y.Disk.tells Y.Disk.past Y.Disk.faults setup.now run nodes.old told.old
-        play.old k)) }
+        × Plays given Y.Disk.facts setup.now run nodes.old told.old play.old k)) }
     ensures ok { (given : Giving Y.Disk) (run : Run) (k : Known) →
-        Plays given Y.Disk.tells Y.Disk.past Y.Disk.faults setup.now run nodes.old told.old
-        play.old k →
-        OnOk result (LinesServed given Y.Disk.tells Y.Disk.past Y.Disk.faults setup.now run
-        lines.items k nodes.new told.new play.new) }
+        Plays given Y.Disk.facts setup.now run nodes.old told.old play.old k →
+        OnOk result (LinesServed given Y.Disk.facts setup.now run lines.items k nodes.new
+        told.new play.new) }
     ensures cause { (given : Giving Y.Disk) (run : Run) (k : Known) →
-        Plays given Y.Disk.tells Y.Disk.past Y.Disk.faults setup.now run nodes.old told.old
-        play.old k →
-        IfErr result (LinesStop given Y.Disk.tells Y.Disk.past Y.Disk.faults
-        (Y.faults yard.old) (Y.faults yard.new) setup.now run lines.items) }
+        Plays given Y.Disk.facts setup.now run nodes.old told.old play.old k →
+        IfErr result (LinesStop given Y.Disk.facts (Y.faults yard.old) (Y.faults yard.new)
+        setup.now run lines.items) }
     ensures later { Y.faults yard.old ≤ Y.faults yard.new }
 {
     'lines: for line in lines {
@@ -124,9 +118,9 @@ fn play_lines<Y: Yard, T: Taker>(
 // Whether a part's queue has a leader; None where the queue isn't there.
 fn is_led<D: NodeDisk>(setup: &Setup, nodes: &Nodes<D>, part: Part) -> Option<bool>
     requires { (given : Giving D) × ((run : Run)
-        × Holds given D.tells D.past D.faults setup.now nodes.now run) }
+        × Holds given D.facts setup.now nodes.now run) }
     ensures { (given : Giving D) (run : Run) →
-        Holds given D.tells D.past D.faults setup.now nodes.now run →
+        Holds given D.facts setup.now nodes.now run →
         IfSome result (λ led. led ≡ is_led part (cluster_in setup.now run)) }
 {
     match part {
@@ -154,18 +148,15 @@ fn play_part<Y: Yard, T: Taker>(
 ) -> Result<(), AskStop>
     requires may { MayRun setup.now }
     requires plays { (given : Giving Y.Disk) × ((run : Run) × ((k : Known)
-        × Plays given Y.Disk.tells Y.Disk.past Y.Disk.faults setup.now run nodes.old told.old
-        play.old k)) }
+        × Plays given Y.Disk.facts setup.now run nodes.old told.old play.old k)) }
     ensures ok { (given : Giving Y.Disk) (run : Run) (k : Known) →
-        Plays given Y.Disk.tells Y.Disk.past Y.Disk.faults setup.now run nodes.old told.old
-        play.old k →
-        OnOk result (PartsDone given Y.Disk.tells Y.Disk.past Y.Disk.faults setup.now run
-        (part ∷ []) k nodes.new told.new play.new) }
+        Plays given Y.Disk.facts setup.now run nodes.old told.old play.old k →
+        OnOk result (PartsDone given Y.Disk.facts setup.now run (part ∷ []) k nodes.new
+        told.new play.new) }
     ensures cause { (given : Giving Y.Disk) (run : Run) (k : Known) →
-        Plays given Y.Disk.tells Y.Disk.past Y.Disk.faults setup.now run nodes.old told.old
-        play.old k →
-        IfErr result (PartStops given Y.Disk.tells Y.Disk.past Y.Disk.faults
-        (Y.faults yard.old) (Y.faults yard.new) setup.now run part k) }
+        Plays given Y.Disk.facts setup.now run nodes.old told.old play.old k →
+        IfErr result (PartStops given Y.Disk.facts (Y.faults yard.old) (Y.faults yard.new)
+        setup.now run part k) }
     ensures later { Y.faults yard.old ≤ Y.faults yard.new }
 {
     let Some(led) = is_led(setup, nodes, part) else {
@@ -196,18 +187,15 @@ pub(crate) fn play_parts<Y: Yard, T: Taker>(
 ) -> Result<(), AskStop>
     requires may { MayRun setup.now }
     requires plays { (given : Giving Y.Disk) × ((run : Run) × ((k : Known)
-        × Plays given Y.Disk.tells Y.Disk.past Y.Disk.faults setup.now run nodes.old told.old
-        play.old k)) }
+        × Plays given Y.Disk.facts setup.now run nodes.old told.old play.old k)) }
     ensures ok { (given : Giving Y.Disk) (run : Run) (k : Known) →
-        Plays given Y.Disk.tells Y.Disk.past Y.Disk.faults setup.now run nodes.old told.old
-        play.old k →
-        OnOk result (PartsDone given Y.Disk.tells Y.Disk.past Y.Disk.faults setup.now run
-        parts.now k nodes.new told.new play.new) }
+        Plays given Y.Disk.facts setup.now run nodes.old told.old play.old k →
+        OnOk result (PartsDone given Y.Disk.facts setup.now run parts.now k nodes.new
+        told.new play.new) }
     ensures cause { (given : Giving Y.Disk) (run : Run) (k : Known) →
-        Plays given Y.Disk.tells Y.Disk.past Y.Disk.faults setup.now run nodes.old told.old
-        play.old k →
-        IfErr result (PartsStop given Y.Disk.tells Y.Disk.past Y.Disk.faults
-        (Y.faults yard.old) (Y.faults yard.new) setup.now run parts.now k) }
+        Plays given Y.Disk.facts setup.now run nodes.old told.old play.old k →
+        IfErr result (PartsStop given Y.Disk.facts (Y.faults yard.old) (Y.faults yard.new)
+        setup.now run parts.now k) }
     ensures later { Y.faults yard.old ≤ Y.faults yard.new }
 {
     'parts: for part in parts {

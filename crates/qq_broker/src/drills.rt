@@ -42,14 +42,13 @@ fn add_audits<D: NodeDisk>(
 ) -> Result<(), Memory>
     requires may { MayRun setup.now }
     requires holds { (given : Giving D) × ((run : Run)
-        × Holds given D.tells D.past D.faults setup.now nodes.now run) }
+        × Holds given D.facts setup.now nodes.now run) }
     ensures digest { (given : Giving D) (run : Run) (text : List ℕ) →
-        Holds given D.tells D.past D.faults setup.now nodes.now run →
+        Holds given D.facts setup.now nodes.now run →
         Holds256 digest.old text → OnOk result (Holds256 digest.new
         (text ++ audits_text (setup_in setup.now run) (cluster_in setup.now run))) }
     ensures tally { (given : Giving D) (run : Run) →
-        Holds given D.tells D.past D.faults setup.now nodes.now run →
-        OnOk result (tally.new ≡ count_rows
+        Holds given D.facts setup.now nodes.now run → OnOk result (tally.new ≡ count_rows
         (all_rows (setup_in setup.now run) (cluster_in setup.now run)) tally.old) }
 {
     let rows = setup.queues.as_slice();
@@ -76,10 +75,9 @@ fn finish<D: NodeDisk>(
 ) -> Result<Vec<u8>, Memory>
     requires may { MayRun setup.now }
     requires holds { (given : Giving D) × ((run : Run)
-        × Holds given D.tells D.past D.faults setup.now nodes.now run) }
+        × Holds given D.facts setup.now nodes.now run) }
     ensures { (given : Giving D) (run : Run) (k : Known) →
-        Holds given D.tells D.past D.faults setup.now nodes.now run → Knows play k →
-        IfOk result (λ line. line.items
+        Holds given D.facts setup.now nodes.now run → Knows play k → IfOk result (λ line. line.items
         ≡ drill_text number (setup_in setup.now run) (cluster_in setup.now run) k) }
 {
     let Play {
@@ -92,7 +90,14 @@ fn finish<D: NodeDisk>(
     if let Err(cause) = add_audits(alloc, setup, nodes, &mut digest, &mut tally) {
         return Err(cause);
     }
-    summary(alloc, number, tally.rows, tally.confirmed, delivered, digest.finalize())
+    summary(
+        alloc,
+        number,
+        tally.rows,
+        tally.confirmed,
+        delivered,
+        digest.finalize(),
+    )
 }
 
 // The line of a drill is written, or that there was no memory for it.
@@ -125,12 +130,11 @@ fn serve_drill<Y: Yard, T: Taker, O: Sink>(
 ) -> u8
     requires may { MayRun setup.now }
     requires plays { (given : Giving Y.Disk) × ((run : Run) × ((k : Known)
-        × Plays given Y.Disk.tells Y.Disk.past Y.Disk.faults setup.now run nodes.old told.old
-        play k)) }
+        × Plays given Y.Disk.facts setup.now run nodes.old told.old play k)) }
     ensures ends { (given : Giving Y.Disk) (run : Run) (k : Known) →
-        Plays given Y.Disk.tells Y.Disk.past Y.Disk.faults setup.now run nodes.old told.old
-        play k → HasPlayed given Y.Disk.tells Y.Disk.past Y.Disk.faults (Y.faults yard.old)
-        (Y.faults yard.new) setup.now run parts.now k number result
+        Plays given Y.Disk.facts setup.now run nodes.old told.old play k →
+        HasPlayed given Y.Disk.facts (Y.faults yard.old) (Y.faults yard.new) setup.now run
+        parts.now k number result
         (sink_state O.written O.faults output.old) (sink_state O.written O.faults output.new) }
     ensures sink_later { O.faults output.old ≤ O.faults output.new }
     ensures yard_later { Y.faults yard.old ≤ Y.faults yard.new }
@@ -160,9 +164,8 @@ fn open_drill<Y: Yard, T: Taker, O: Sink>(
     requires knows { Knows play (first_known number setup.now.nodes) }
     ensures ends { (source : SourceState) → HasDrilled result number setup.now
         (beside source O.written O.faults output.old) (beside source O.written O.faults output.new)
-        (Meets (under Y.is_given None) Y.Disk.tells Y.Disk.past Y.Disk.faults
-        (Y.faults yard.old) (Y.faults yard.new))
-        (Had (under Y.is_given None) Y.Disk.tells Y.Disk.past Y.Disk.faults) }
+        (Meets (under Y.is_given None) Y.Disk.facts (Y.faults yard.old) (Y.faults yard.new))
+        (Had (under Y.is_given None) Y.Disk.facts) }
     ensures sink_later { O.faults output.old ≤ O.faults output.new }
     ensures yard_later { Y.faults yard.old ≤ Y.faults yard.new }
 {
@@ -182,7 +185,9 @@ fn open_drill<Y: Yard, T: Taker, O: Sink>(
         drop(play);
         return close(output, Ending::no_memory());
     }
-    serve_drill::<Y, T, O>(alloc, setup, number, list, &mut nodes, yard, &mut told, play, output)
+    serve_drill::<Y, T, O>(
+        alloc, setup, number, list, &mut nodes, yard, &mut told, play, output,
+    )
 }
 
 // Makes what a drill of this setup needs, and runs it.
@@ -196,9 +201,8 @@ fn begin_drill<Y: Yard, T: Taker, O: Sink>(
     requires may { MayRun setup.now }
     ensures ends { (source : SourceState) → HasDrilled result number setup.now
         (beside source O.written O.faults output.old) (beside source O.written O.faults output.new)
-        (Meets (under Y.is_given None) Y.Disk.tells Y.Disk.past Y.Disk.faults
-        (Y.faults yard.old) (Y.faults yard.new))
-        (Had (under Y.is_given None) Y.Disk.tells Y.Disk.past Y.Disk.faults) }
+        (Meets (under Y.is_given None) Y.Disk.facts (Y.faults yard.old) (Y.faults yard.new))
+        (Had (under Y.is_given None) Y.Disk.facts) }
     ensures sink_later { O.faults output.old ≤ O.faults output.new }
     ensures yard_later { Y.faults yard.old ≤ Y.faults yard.new }
 {
@@ -225,9 +229,8 @@ pub(crate) fn run_drill<Y: Yard, T: Taker, O: Sink>(
 ) -> u8
     ensures ends { (source : SourceState) → DrillEnds result number nodes
         (beside source O.written O.faults output.old) (beside source O.written O.faults output.new)
-        (Meets (under Y.is_given None) Y.Disk.tells Y.Disk.past Y.Disk.faults
-        (Y.faults yard.old) (Y.faults yard.new))
-        (Had (under Y.is_given None) Y.Disk.tells Y.Disk.past Y.Disk.faults) }
+        (Meets (under Y.is_given None) Y.Disk.facts (Y.faults yard.old) (Y.faults yard.new))
+        (Had (under Y.is_given None) Y.Disk.facts) }
     ensures sink_later { O.faults output.old ≤ O.faults output.new }
     ensures yard_later { Y.faults yard.old ≤ Y.faults yard.new }
 {

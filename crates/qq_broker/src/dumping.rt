@@ -18,11 +18,11 @@ use std::alloc::Global;
 
 // Writes the text of the log files that a disk shows, and says with which status the run ends.
 fn dump_disk<D: NodeDisk, O: Sink>(alloc: Global, disk: &mut D, output: &mut O) -> u8
-    ensures ends { (files : List LogFile) × AreShown D.tells D.past disk.old files
-        × HasDumped result (Rose (D.faults disk.old) (D.faults disk.new)) files
+    ensures ends { (files : List LogFile) × AreShown D.facts disk.old files
+        × HasDumped result (Rose (D.facts.faults disk.old) (D.facts.faults disk.new)) files
         (sink_state O.written O.faults output.old) (sink_state O.written O.faults output.new) }
-    ensures same { IsTrue (D.tells disk.old) → D.past disk.new ≡ D.past disk.old }
-    ensures told { D.tells disk.new ≡ D.tells disk.old }
+    ensures same { IsTrue (D.facts.tells disk.old) → D.facts.past disk.new ≡ D.facts.past disk.old }
+    ensures told { D.facts.tells disk.new ≡ D.facts.tells disk.old }
     ensures later { O.faults output.old ≤ O.faults output.new }
 {
     match dump(alloc, disk, output) {
@@ -45,8 +45,8 @@ pub fn dump_node<Y: Yard, O: Sink>(
     output: &mut O,
 ) -> u8
     ensures ends { (source : SourceState) →
-        DumpEnds (under Y.is_given (Some root.now)) Y.Disk.tells Y.Disk.past Y.Disk.faults result
-        node (beside source O.written O.faults output.old)
+        DumpEnds (under Y.is_given (Some root.now)) Y.Disk.facts result node
+        (beside source O.written O.faults output.old)
         (beside source O.written O.faults output.new) (Y.faults yard.old) (Y.faults yard.new) }
     ensures sink_later { O.faults output.old ≤ O.faults output.new }
     ensures yard_later { Y.faults yard.old ≤ Y.faults yard.new }

@@ -25,8 +25,8 @@ use qq_wal_chain::an_empty_disk_keeps_the_promise;
 pub fn a_run_without_a_root_begins_with_new_logs<D: NodeDisk>()
     ensures { (is_given : Option (List ℕ) → ℕ → D → Bool) (first : Takers) (s : Setup)
         (all left : List Input)
-        (b : Behind (RunHad (under is_given None) D.tells D.past D.faults first) s all left) →
-        IsRunnable (state_of s) → ((disk : D) → IsTrue (D.tells disk)) → b.logs ≡ new_logs }
+        (b : Behind (RunHad (under is_given None) D.facts first) s all left) →
+        IsRunnable (state_of s) → ((disk : D) → IsTrue (D.facts.tells disk)) → b.logs ≡ new_logs }
 {
     a_promised_disk_is_read();
     an_empty_disk_keeps_the_promise();
@@ -41,16 +41,15 @@ pub fn a_run_without_a_root_begins_with_new_logs<D: NodeDisk>()
 pub fn a_dump_tells_what_was_done<D: NodeDisk>()
     ensures statuses { (given : Giving D) (status : ℕ) (node : NodeId) (before later : Streams)
         (yard yard' : ℕ) →
-        DumpEnds given D.tells D.past D.faults status node before later yard yard' →
+        DumpEnds given D.facts status node before later yard yard' →
         (status ≡ 0) ⊎ ((status ≡ 6) ⊎ ((status ≡ 7) ⊎ (status ≡ 12))) }
     ensures done { (given : Giving D) (node : NodeId) (before later : Streams) (yard yard' : ℕ) →
-        DumpEnds given D.tells D.past D.faults 0 node before later yard yard' →
-        (disk : D) × IsGiven given D.tells D.past node.0 disk
-        × Keeps before.source.left later.source.left
-        × (IsTrue (D.tells disk) → Appends before.sink.written later.sink.written
-        (dump_text (log_files (now (D.past disk))))) }
+        DumpEnds given D.facts 0 node before later yard yard' →
+        (disk : D) × IsGiven given D.facts node.0 disk × Keeps before.source.left later.source.left
+        × (IsTrue (D.facts.tells disk) → Appends before.sink.written later.sink.written
+        (dump_text (log_files (now (D.facts.past disk))))) }
     ensures failed { (given : Giving D) (node : NodeId) (before later : Streams) (yard yard' : ℕ) →
-        DumpEnds given D.tells D.past D.faults 7 node before later yard yard' →
-        Rose yard yard' ⊎ ((disk : D) × IsGiven given D.tells D.past node.0 disk
-        × ((last : D) × Rose (D.faults disk) (D.faults last))) }
+        DumpEnds given D.facts 7 node before later yard yard' →
+        Rose yard yard' ⊎ ((disk : D) × IsGiven given D.facts node.0 disk
+        × ((last : D) × Rose (D.facts.faults disk) (D.facts.faults last))) }
 {}

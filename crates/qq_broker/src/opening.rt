@@ -40,8 +40,8 @@ fn disks_of<Y: Yard>(
     ensures count { IfOk result (λ disks. length disks.items ≡ count) }
     ensures given { IfOk result (λ disks. AreGiven
         (under Y.is_given (option_map (λ text. text.now) root.entry))
-        Y.Disk.tells Y.Disk.past disks.items) }
-    ensures whole { IfOk result (λ disks. All (IsWhole Y.Disk.tells Y.Disk.past) disks.items) }
+        Y.Disk.facts disks.items) }
+    ensures whole { IfOk result (λ disks. All (IsWhole Y.Disk.facts) disks.items) }
     ensures cause { IfErr result (IsYardEnding (Y.faults yard.old) (Y.faults yard.new)) }
     ensures later { Y.faults yard.old ≤ Y.faults yard.new }
 {
@@ -82,10 +82,10 @@ pub fn begin_over<D: NodeDisk>(
 ) -> Result<Nodes<D>, Memory>
     requires may { MayRun setup.now }
     requires count { length disks.old.items ≡ setup.now.nodes }
-    requires whole { All (IsWhole D.tells D.past) disks.old.items }
-    ensures ok { (given : Giving D) → AreGiven given D.tells D.past disks.old.items →
-        IfOk result (AreUnopened given D.tells D.past D.faults setup.now) }
-    ensures disks { IfOk result (HaveDisks D.tells D.past D.faults disks.old.items) }
+    requires whole { All (IsWhole D.facts) disks.old.items }
+    ensures ok { (given : Giving D) → AreGiven given D.facts disks.old.items →
+        IfOk result (AreUnopened given D.facts setup.now) }
+    ensures disks { IfOk result (HaveDisks D.facts disks.old.items) }
     ensures empty { OnOk result (disks.new.items ≡ []) }
     ensures room { vec_capacity disks.new ≡ vec_capacity disks.old }
     ensures err { OnErr result (disks.new ≡ disks.old) }
@@ -107,7 +107,7 @@ fn begin<Y: Yard>(
 ) -> Result<Nodes<Y::Disk>, Ending>
     requires { MayRun setup.now }
     ensures ok { IfOk result (AreUnopened (under Y.is_given root.now)
-        Y.Disk.tells Y.Disk.past Y.Disk.faults setup.now) }
+        Y.Disk.facts setup.now) }
     ensures cause { IfErr result (IsYardEnding (Y.faults yard.old) (Y.faults yard.new)) }
     ensures later { Y.faults yard.old ≤ Y.faults yard.new }
 {
@@ -137,13 +137,11 @@ pub fn open<Y: Yard, T: Taker>(
 ) -> Result<Nodes<Y::Disk>, Ending>
     requires { MayRun setup.now }
     ensures ok { IfOk result (λ nodes. HasOpened
-        (Had (under Y.is_given root.now) Y.Disk.tells Y.Disk.past Y.Disk.faults)
-        setup.now
-        (Holds (under Y.is_given root.now) Y.Disk.tells Y.Disk.past Y.Disk.faults
-        setup.now nodes) told.old told.new) }
+        (Had (under Y.is_given root.now) Y.Disk.facts) setup.now
+        (Holds (under Y.is_given root.now) Y.Disk.facts setup.now nodes) told.old told.new) }
     ensures cause { IfErr result (MayNotOpen
-        (Meets (under Y.is_given root.now) Y.Disk.tells Y.Disk.past Y.Disk.faults
-        (Y.faults yard.old) (Y.faults yard.new)) setup.now) }
+        (Meets (under Y.is_given root.now) Y.Disk.facts (Y.faults yard.old)
+        (Y.faults yard.new)) setup.now) }
     ensures later { Y.faults yard.old ≤ Y.faults yard.new }
 {
     clusters_begin_with_new_logs();

@@ -31,7 +31,7 @@ fn hand_back<D: NodeDisk>(nodes: Nodes<D>, room: Vec<D>) -> Vec<D>
     requires empty { room.items ≡ [] }
     requires room { length nodes.nodes.items ≤ vec_capacity room }
     ensures count { length result.items ≡ length nodes.nodes.items }
-    ensures disks { HaveDisks D.tells D.past D.faults result.items nodes }
+    ensures disks { HaveDisks D.facts result.items nodes }
 {
     let mut nodes = nodes;
     let mut room = room;
@@ -57,19 +57,18 @@ pub fn open_disks<D: NodeDisk, T: Taker>(
 ) -> Result<Broker<D>, (OpenFault, Vec<D>)>
     requires may { MayRun setup }
     requires count { length disks.items ≡ setup.nodes }
-    requires whole { All (IsWhole D.tells D.past) disks.items }
+    requires whole { All (IsWhole D.facts) disks.items }
     ensures ok { IfOk result (λ broker. HasOpened
-        (Had (ByHand disks.items) D.tells D.past D.faults) setup
-        (Runs (ByHand disks.items) D.tells D.past D.faults broker)
+        (Had (ByHand disks.items) D.facts) setup (Runs (ByHand disks.items) D.facts broker)
         (record { text = []; takers = takers.old }) (told_of broker takers.new)) }
     ensures setup { IfOk result (λ broker. broker.setup ≡ setup) }
     ensures cause { IfErr result (λ refusal. MayNotOpen
-        (Meets (ByHand disks.items) D.tells D.past D.faults 0 0) setup
+        (Meets (ByHand disks.items) D.facts 0 0) setup
         (ending_of (stop_of (open_stop setup refusal.0)))) }
     ensures back { IfErr result (λ refusal.
-        HandsBack D.tells D.past D.faults setup disks.items refusal.1.items) }
+        HandsBack D.facts setup disks.items refusal.1.items) }
     ensures failed { IfErr result (λ refusal.
-        FailsBy D.faults disks.items refusal.1.items refusal.0) }
+        FailsBy D.facts.faults disks.items refusal.1.items refusal.0) }
 {
     clusters_begin_with_new_logs();
     let mut room = disks;
@@ -113,26 +112,26 @@ pub fn reopen_disks<D: NodeDisk, T: Taker>(
     takers: &mut Desk<T>,
 ) -> Result<Broker<D>, (OpenFault, Vec<D>)>
     requires rests { (given : Giving D) × ((run : Run) × ((before : List D) × ((images : ℕ → Image)
-        × Rests given D.tells D.past D.faults (state_of setup) before audits run
-        × ComeBack given D.tells D.past images before disks.items))) }
+        × Rests given D.facts (state_of setup) before audits run
+        × ComeBack given D.facts images before disks.items))) }
     ensures ok { (given : Giving D) (run : Run) (before : List D) (images : ℕ → Image) →
-        Rests given D.tells D.past D.faults (state_of setup) before audits run →
-        ComeBack given D.tells D.past images before disks.items →
-        IfOk result (λ broker. HasReopened (Had given D.tells D.past D.faults) (setup_in setup run)
+        Rests given D.facts (state_of setup) before audits run →
+        ComeBack given D.facts images before disks.items →
+        IfOk result (λ broker. HasReopened (Had given D.facts) (setup_in setup run)
         (crashed_events (setup_in setup run) run.events images)
-        (λ events. Runs given D.tells D.past D.faults broker (with_events run events))
+        (λ events. Runs given D.facts broker (with_events run events))
         (record { text = []; takers = takers.old }) (told_of broker takers.new)) }
     ensures setup { IfOk result (λ broker. broker.setup ≡ setup) }
     ensures cause { (given : Giving D) (run : Run) (before : List D) (images : ℕ → Image) →
-        Rests given D.tells D.past D.faults (state_of setup) before audits run →
-        ComeBack given D.tells D.past images before disks.items →
-        IfErr result (λ refusal. IsReopenCaused given D.tells D.past D.faults setup
-        (setup_in setup run) (crashed_events (setup_in setup run) run.events images)
+        Rests given D.facts (state_of setup) before audits run →
+        ComeBack given D.facts images before disks.items →
+        IfErr result (λ refusal. IsReopenCaused given D.facts setup (setup_in setup run)
+        (crashed_events (setup_in setup run) run.events images)
         disks.items refusal.1.items refusal.0) }
     ensures back { (given : Giving D) (run : Run) (before : List D) (images : ℕ → Image) →
-        Rests given D.tells D.past D.faults (state_of setup) before audits run →
-        ComeBack given D.tells D.past images before disks.items →
-        IfErr result (λ refusal. StillKeep D.tells D.past D.faults (setup_in setup run)
+        Rests given D.facts (state_of setup) before audits run →
+        ComeBack given D.facts images before disks.items →
+        IfErr result (λ refusal. StillKeep D.facts (setup_in setup run)
         (crashed_events (setup_in setup run) run.events images) disks.items refusal.1.items) }
 {
     these_disks_may_be_recovered();

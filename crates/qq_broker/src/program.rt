@@ -44,19 +44,16 @@ fn answer<Y: Yard, T: Taker>(
 ) -> Result<(), AskStop>
     requires may { MayRun setup.now }
     requires holds { (given : Giving Y.Disk) × ((run : Run)
-        × Holds given Y.Disk.tells Y.Disk.past Y.Disk.faults setup.now nodes.old run) }
+        × Holds given Y.Disk.facts setup.now nodes.old run) }
     ensures ok { (given : Giving Y.Disk) (first : Takers) (run : Run) → run.lines ≡ before →
-        HoldsAll given Y.Disk.tells Y.Disk.past Y.Disk.faults setup.now first nodes.old
-        told.old.takers run →
-        OnOk result (Answers (RunHad given Y.Disk.tells Y.Disk.past Y.Disk.faults first) setup.now
-        run (Some line.now) (HoldsAll given Y.Disk.tells Y.Disk.past Y.Disk.faults setup.now first
-        nodes.new told.new.takers) told.old told.new) }
+        HoldsAll given Y.Disk.facts setup.now first nodes.old told.old.takers run →
+        OnOk result (Answers (RunHad given Y.Disk.facts first) setup.now run (Some line.now)
+        (HoldsAll given Y.Disk.facts setup.now first nodes.new told.new.takers) told.old told.new) }
     ensures within { IfOk result (λ _. before < LINES_LIMIT) }
     ensures cause { (given : Giving Y.Disk) (first : Takers) (run : Run) → run.lines ≡ before →
-        HoldsAll given Y.Disk.tells Y.Disk.past Y.Disk.faults setup.now first nodes.old
-        told.old.takers run →
-        IfErr result (HasAnswerCause (RunMeets given Y.Disk.tells Y.Disk.past Y.Disk.faults first
-        (Y.faults yard.old) (Y.faults yard.new)) setup.now run (Some line.now)) }
+        HoldsAll given Y.Disk.facts setup.now first nodes.old told.old.takers run →
+        IfErr result (HasAnswerCause (RunMeets given Y.Disk.facts first (Y.faults yard.old)
+        (Y.faults yard.new)) setup.now run (Some line.now)) }
     ensures same { IfErr result (λ stop. IsRefusedBy stop → told.new ≡ told.old) }
     ensures later { Y.faults yard.old ≤ Y.faults yard.new }
 {
@@ -83,29 +80,25 @@ fn serve_lines<Y: Yard, T: Taker, I: Source, O: Sink>(
 ) -> Result<(), Stop>
     requires may { MayRun setup.now }
     requires opened { (given : Giving Y.Disk) × ((first : Takers)
-        × HasOpened (Had given Y.Disk.tells Y.Disk.past Y.Disk.faults) setup.now
-        (Holds given Y.Disk.tells Y.Disk.past Y.Disk.faults setup.now nodes.old)
+        × HasOpened (Had given Y.Disk.facts) setup.now
+        (Holds given Y.Disk.facts setup.now nodes.old)
         (record { text = []; takers = first }) told.old) }
     ensures ok { (given : Giving Y.Disk) (first : Takers) →
-        HasOpened (Had given Y.Disk.tells Y.Disk.past Y.Disk.faults) setup.now
-        (Holds given Y.Disk.tells Y.Disk.past Y.Disk.faults setup.now nodes.old)
+        HasOpened (Had given Y.Disk.facts) setup.now (Holds given Y.Disk.facts setup.now nodes.old)
         (record { text = []; takers = first }) told.old →
         OnOk result (IsServedToEnd
-        (RunHad given Y.Disk.tells Y.Disk.past Y.Disk.faults first) setup.now
-        (HoldsAll given Y.Disk.tells Y.Disk.past Y.Disk.faults setup.now first nodes.new
-        told.new.takers)
+        (RunHad given Y.Disk.facts first) setup.now
+        (HoldsAll given Y.Disk.facts setup.now first nodes.new told.new.takers)
         (streams I.left I.faults O.written O.faults input.old output.old)
         (streams I.left I.faults O.written O.faults input.new output.new)) }
     ensures cause { (given : Giving Y.Disk) (first : Takers) →
-        HasOpened (Had given Y.Disk.tells Y.Disk.past Y.Disk.faults) setup.now
-        (Holds given Y.Disk.tells Y.Disk.past Y.Disk.faults setup.now nodes.old)
+        HasOpened (Had given Y.Disk.facts) setup.now (Holds given Y.Disk.facts setup.now nodes.old)
         (record { text = []; takers = first }) told.old →
         IfErr result (λ stop. HasStopped stop setup.now
         (streams I.left I.faults O.written O.faults input.old output.old)
         (streams I.left I.faults O.written O.faults input.new output.new)
-        (RunMeets given Y.Disk.tells Y.Disk.past Y.Disk.faults first
-        (Y.faults yard.old) (Y.faults yard.new))
-        (RunClaims given Y.Disk.tells Y.Disk.past Y.Disk.faults first told.new.takers) []) }
+        (RunMeets given Y.Disk.facts first (Y.faults yard.old) (Y.faults yard.new))
+        (RunClaims given Y.Disk.facts first told.new.takers) []) }
     ensures later { AreLater (streams I.left I.faults O.written O.faults input.old output.old)
         (streams I.left I.faults O.written O.faults input.new output.new) }
     ensures yard_later { Y.faults yard.old ≤ Y.faults yard.new }
@@ -146,27 +139,23 @@ fn serve_script<Y: Yard, T: Taker, I: Source, O: Sink>(
 ) -> Result<(), Stop>
     requires may { MayRun setup.now }
     requires opened { (given : Giving Y.Disk) × ((first : Takers)
-        × HasOpened (Had given Y.Disk.tells Y.Disk.past Y.Disk.faults) setup.now
-        (Holds given Y.Disk.tells Y.Disk.past Y.Disk.faults setup.now nodes.old)
+        × HasOpened (Had given Y.Disk.facts) setup.now
+        (Holds given Y.Disk.facts setup.now nodes.old)
         (record { text = []; takers = first }) told.old) }
     ensures ok { (given : Giving Y.Disk) (first : Takers) →
-        HasOpened (Had given Y.Disk.tells Y.Disk.past Y.Disk.faults) setup.now
-        (Holds given Y.Disk.tells Y.Disk.past Y.Disk.faults setup.now nodes.old)
+        HasOpened (Had given Y.Disk.facts) setup.now (Holds given Y.Disk.facts setup.now nodes.old)
         (record { text = []; takers = first }) told.old →
-        OnOk result (IsDone DONE (RunClaims given Y.Disk.tells Y.Disk.past Y.Disk.faults first
-        told.new.takers) setup.now
+        OnOk result (IsDone DONE (RunClaims given Y.Disk.facts first told.new.takers) setup.now
         (streams I.left I.faults O.written O.faults input.old output.old)
         (streams I.left I.faults O.written O.faults input.new output.new)) }
     ensures cause { (given : Giving Y.Disk) (first : Takers) →
-        HasOpened (Had given Y.Disk.tells Y.Disk.past Y.Disk.faults) setup.now
-        (Holds given Y.Disk.tells Y.Disk.past Y.Disk.faults setup.now nodes.old)
+        HasOpened (Had given Y.Disk.facts) setup.now (Holds given Y.Disk.facts setup.now nodes.old)
         (record { text = []; takers = first }) told.old →
         IfErr result (λ stop. HasStopped stop setup.now
         (streams I.left I.faults O.written O.faults input.old output.old)
         (streams I.left I.faults O.written O.faults input.new output.new)
-        (RunMeets given Y.Disk.tells Y.Disk.past Y.Disk.faults first
-        (Y.faults yard.old) (Y.faults yard.new))
-        (RunClaims given Y.Disk.tells Y.Disk.past Y.Disk.faults first told.new.takers) []) }
+        (RunMeets given Y.Disk.facts first (Y.faults yard.old) (Y.faults yard.new))
+        (RunClaims given Y.Disk.facts first told.new.takers) []) }
     ensures later { AreLater (streams I.left I.faults O.written O.faults input.old output.old)
         (streams I.left I.faults O.written O.faults input.new output.new) }
     ensures yard_later { Y.faults yard.old ≤ Y.faults yard.new }
@@ -212,10 +201,9 @@ fn open_told<Y: Yard, T: Taker, I: Source, O: Sink>(
     ensures ends { HasRun result setup.now
         (streams I.left I.faults O.written O.faults input.old output.old)
         (streams I.left I.faults O.written O.faults input.new output.new)
-        (RunMeets (under Y.is_given root.now) Y.Disk.tells Y.Disk.past Y.Disk.faults
-        told.old.takers (Y.faults yard.old) (Y.faults yard.new))
-        (RunClaims (under Y.is_given root.now) Y.Disk.tells Y.Disk.past Y.Disk.faults
-        told.old.takers told.new.takers) }
+        (RunMeets (under Y.is_given root.now) Y.Disk.facts told.old.takers (Y.faults yard.old)
+        (Y.faults yard.new))
+        (RunClaims (under Y.is_given root.now) Y.Disk.facts told.old.takers told.new.takers) }
     ensures later { AreLater (streams I.left I.faults O.written O.faults input.old output.old)
         (streams I.left I.faults O.written O.faults input.new output.new) }
     ensures yard_later { Y.faults yard.old ≤ Y.faults yard.new }
@@ -244,10 +232,9 @@ fn open_script<Y: Yard, T: Taker, I: Source, O: Sink>(
     ensures ends { HasRun result setup.now
         (streams I.left I.faults O.written O.faults input.old output.old)
         (streams I.left I.faults O.written O.faults input.new output.new)
-        (RunMeets (under Y.is_given root.now) Y.Disk.tells Y.Disk.past Y.Disk.faults
-        takers.old (Y.faults yard.old) (Y.faults yard.new))
-        (RunClaims (under Y.is_given root.now) Y.Disk.tells Y.Disk.past Y.Disk.faults
-        takers.old takers.new) }
+        (RunMeets (under Y.is_given root.now) Y.Disk.facts takers.old (Y.faults yard.old)
+        (Y.faults yard.new))
+        (RunClaims (under Y.is_given root.now) Y.Disk.facts takers.old takers.new) }
     ensures later { AreLater (streams I.left I.faults O.written O.faults input.old output.old)
         (streams I.left I.faults O.written O.faults input.new output.new) }
     ensures yard_later { Y.faults yard.old ≤ Y.faults yard.new }
@@ -273,10 +260,9 @@ fn begin_script<Y: Yard, T: Taker, I: Source, O: Sink>(
     ensures ends { HasBegun result setup.now
         (streams I.left I.faults O.written O.faults input.old output.old)
         (streams I.left I.faults O.written O.faults input.new output.new)
-        (RunMeets (under Y.is_given root.now) Y.Disk.tells Y.Disk.past Y.Disk.faults
-        takers.old (Y.faults yard.old) (Y.faults yard.new))
-        (RunClaims (under Y.is_given root.now) Y.Disk.tells Y.Disk.past Y.Disk.faults
-        takers.old takers.new) }
+        (RunMeets (under Y.is_given root.now) Y.Disk.facts takers.old (Y.faults yard.old)
+        (Y.faults yard.new))
+        (RunClaims (under Y.is_given root.now) Y.Disk.facts takers.old takers.new) }
     ensures later { AreLater (streams I.left I.faults O.written O.faults input.old output.old)
         (streams I.left I.faults O.written O.faults input.new output.new) }
     ensures yard_later { Y.faults yard.old ≤ Y.faults yard.new }
@@ -302,10 +288,9 @@ fn run_script<S: Shelf, Y: Yard, T: Taker, I: Source, O: Sink>(
         (shelf_state S.files S.faults shelf.old) (shelf_state S.files S.faults shelf.new)
         (streams I.left I.faults O.written O.faults input.old output.old)
         (streams I.left I.faults O.written O.faults input.new output.new)
-        (RunMeets (under Y.is_given options.now.root) Y.Disk.tells Y.Disk.past Y.Disk.faults
-        takers.old (Y.faults yard.old) (Y.faults yard.new))
-        (RunClaims (under Y.is_given options.now.root) Y.Disk.tells Y.Disk.past Y.Disk.faults
-        takers.old takers.new) }
+        (RunMeets (under Y.is_given options.now.root) Y.Disk.facts takers.old (Y.faults yard.old)
+        (Y.faults yard.new))
+        (RunClaims (under Y.is_given options.now.root) Y.Disk.facts takers.old takers.new) }
     ensures later { AreLater (streams I.left I.faults O.written O.faults input.old output.old)
         (streams I.left I.faults O.written O.faults input.new output.new) }
     ensures shelf_later { S.faults shelf.old ≤ S.faults shelf.new }
@@ -327,8 +312,7 @@ fn run_command<S: Shelf, Y: Yard, T: Taker, I: Source, O: Sink>(
     yard: &mut Y,
     takers: &mut Desk<T>,
 ) -> u8
-    ensures ends { ProgramEnds Y.is_given Y.Disk.tells Y.Disk.past Y.Disk.faults result
-        (Some command.now)
+    ensures ends { ProgramEnds Y.is_given Y.Disk.facts result (Some command.now)
         (outside (streams I.left I.faults O.written O.faults input.old output.old)
         (shelf_state S.files S.faults shelf.old) (Y.faults yard.old) takers.old)
         (outside (streams I.left I.faults O.written O.faults input.new output.new)
@@ -373,7 +357,7 @@ pub fn run<R: AllocGlobal, I: Source, O: Sink, S: Shelf, Y: Yard, T: Taker>(
     yard: &mut Y,
     takers: &mut Desk<T>,
 ) -> u8
-    ensures ends { ProgramEnds Y.is_given Y.Disk.tells Y.Disk.past Y.Disk.faults result
+    ensures ends { ProgramEnds Y.is_given Y.Disk.facts result
         (read_words (map string_bytes words.now))
         (outside (streams I.left I.faults O.written O.faults input.old output.old)
         (shelf_state S.files S.faults shelf.old) (Y.faults yard.old) takers.old)

@@ -49,11 +49,9 @@ fn crash_one<Y: Yard>(
     image: &Image,
 ) -> Result<(), YardFault>
     requires holds { (given : Giving Y.Disk) × ((s : SetupOf) × ((run : Run)
-        × Holds given Y.Disk.tells Y.Disk.past Y.Disk.faults s nodes.old run
-        × Contains (setup_in s run).nodes node.0)) }
+        × Holds given Y.Disk.facts s nodes.old run × Contains (setup_in s run).nodes node.0)) }
     ensures ok { (given : Giving Y.Disk) (s : SetupOf) (run : Run) →
-        Holds given Y.Disk.tells Y.Disk.past Y.Disk.faults s nodes.old run →
-        OnOk result (Holds given Y.Disk.tells Y.Disk.past Y.Disk.faults s nodes.new
+        Holds given Y.Disk.facts s nodes.old run → OnOk result (Holds given Y.Disk.facts s nodes.new
         (with_events run (run.events ++ Crashes node.0 image.now ∷ []))) }
     ensures cause { HasCause IsYardCaused (Y.faults yard.old) (Y.faults yard.new) result }
 {
@@ -72,10 +70,9 @@ fn crash_first<Y: Yard>(
     image: &Image,
 ) -> Result<(), YardFault>
     requires holds { (given : Giving Y.Disk) × ((s : SetupOf) × ((run : Run)
-        × Holds given Y.Disk.tells Y.Disk.past Y.Disk.faults s nodes.old run × (count ≤ s.nodes))) }
+        × Holds given Y.Disk.facts s nodes.old run × (count ≤ s.nodes))) }
     ensures ok { (given : Giving Y.Disk) (s : SetupOf) (run : Run) →
-        Holds given Y.Disk.tells Y.Disk.past Y.Disk.faults s nodes.old run →
-        OnOk result (Holds given Y.Disk.tells Y.Disk.past Y.Disk.faults s nodes.new
+        Holds given Y.Disk.facts s nodes.old run → OnOk result (Holds given Y.Disk.facts s nodes.new
         (with_events run (run.events ++ crashes 1 count image.now))) }
     ensures cause { HasCause IsYardCaused (Y.faults yard.old) (Y.faults yard.new) result }
 {
@@ -97,15 +94,15 @@ fn crash<Y: Yard>(
     image: &Image,
 ) -> Result<(), StepFault>
     requires { (given : Giving Y.Disk) × ((run : Run)
-        × Holds given Y.Disk.tells Y.Disk.past Y.Disk.faults setup.now nodes.old run
+        × Holds given Y.Disk.facts setup.now nodes.old run
         × AreNodes (setup_in setup.now run) which) }
     ensures ok { (given : Giving Y.Disk) (run : Run) (told : Outcome) →
-        Holds given Y.Disk.tells Y.Disk.past Y.Disk.faults setup.now nodes.old run →
-        OnOk result (IsServed given Y.Disk.tells Y.Disk.past Y.Disk.faults setup.now run
-        (Crash which image.now) nodes.new told told) }
+        Holds given Y.Disk.facts setup.now nodes.old run →
+        OnOk result (IsServed given Y.Disk.facts setup.now run (Crash which image.now)
+        nodes.new told told) }
     ensures cause { (given : Giving Y.Disk) (run : Run) (number : ℕ) → IfErr result (λ fault. HasServeCause
-        (Meets given Y.Disk.tells Y.Disk.past Y.Disk.faults (Y.faults yard.old) (Y.faults yard.new))
-        (setup_in setup.now run) run.events number (Crash which image.now)
+        (Meets given Y.Disk.facts (Y.faults yard.old) (Y.faults yard.new)) (setup_in setup.now run)
+        run.events number (Crash which image.now)
         (step_stop setup.now number fault)) }
     ensures other { IfErr result (λ fault. fault ≡ NoSuch → ⊥) }
     ensures later { Y.faults yard.old ≤ Y.faults yard.new }
@@ -131,15 +128,14 @@ fn restart<D: NodeDisk, T: Taker>(
     told: &mut Told<T>,
 ) -> Result<(), StepFault>
     requires { (given : Giving D) × ((run : Run)
-        × Holds given D.tells D.past D.faults setup.now nodes.old run
-        × AreNodes (setup_in setup.now run) which) }
+        × Holds given D.facts setup.now nodes.old run × AreNodes (setup_in setup.now run) which) }
     ensures ok { (given : Giving D) (run : Run) →
-        Holds given D.tells D.past D.faults setup.now nodes.old run →
-        OnOk result (IsServed given D.tells D.past D.faults setup.now run
-        (Restart which) nodes.new told.old told.new) }
+        Holds given D.facts setup.now nodes.old run →
+        OnOk result (IsServed given D.facts setup.now run (Restart which) nodes.new
+        told.old told.new) }
     ensures cause { (given : Giving D) (run : Run) (number before after : ℕ) →
-        Holds given D.tells D.past D.faults setup.now nodes.old run →
-        IfErr result (λ fault. HasServeCause (Meets given D.tells D.past D.faults before after)
+        Holds given D.facts setup.now nodes.old run →
+        IfErr result (λ fault. HasServeCause (Meets given D.facts before after)
         (setup_in setup.now run) run.events number (Restart which)
         (step_stop setup.now number fault)) }
     ensures other { IfErr result (λ fault. fault ≡ NoSuch → ⊥) }
@@ -166,15 +162,13 @@ fn go_on<D: NodeDisk, T: Taker>(
 ) -> Result<(), StepFault>
     requires may { MayRun setup.now }
     requires holds { (given : Giving D) × ((run : Run)
-        × Holds given D.tells D.past D.faults setup.now nodes.old run
-        × IsNamed (setup_in setup.now run) line) }
+        × Holds given D.facts setup.now nodes.old run × IsNamed (setup_in setup.now run) line) }
     ensures ok { (given : Giving D) (run : Run) →
-        Holds given D.tells D.past D.faults setup.now nodes.old run →
-        OnOk result (IsServed given D.tells D.past D.faults setup.now run
-        line nodes.new told.old told.new) }
+        Holds given D.facts setup.now nodes.old run →
+        OnOk result (IsServed given D.facts setup.now run line nodes.new told.old told.new) }
     ensures cause { (given : Giving D) (run : Run) (number before after : ℕ) →
-        Holds given D.tells D.past D.faults setup.now nodes.old run →
-        IfErr result (λ fault. HasServeCause (Meets given D.tells D.past D.faults before after)
+        Holds given D.facts setup.now nodes.old run →
+        IfErr result (λ fault. HasServeCause (Meets given D.facts before after)
         (setup_in setup.now run) run.events number line (step_stop setup.now number fault)) }
     ensures other { IfErr result (λ fault. fault ≡ NoSuch → ⊥) }
 {
@@ -206,17 +200,15 @@ pub(crate) fn serve_free<Y: Yard, T: Taker>(
 ) -> Result<(), StepFault>
     requires may { MayRun setup.now }
     requires holds { (given : Giving Y.Disk) × ((run : Run)
-        × Holds given Y.Disk.tells Y.Disk.past Y.Disk.faults setup.now nodes.old run
+        × Holds given Y.Disk.facts setup.now nodes.old run
         × IsNamed (setup_in setup.now run) line) }
     ensures ok { (given : Giving Y.Disk) (run : Run) →
-        Holds given Y.Disk.tells Y.Disk.past Y.Disk.faults setup.now nodes.old run →
-        OnOk result (IsServed given Y.Disk.tells Y.Disk.past Y.Disk.faults setup.now run
-        line nodes.new told.old told.new) }
+        Holds given Y.Disk.facts setup.now nodes.old run →
+        OnOk result (IsServed given Y.Disk.facts setup.now run line nodes.new told.old told.new) }
     ensures cause { (given : Giving Y.Disk) (run : Run) (number : ℕ) →
-        Holds given Y.Disk.tells Y.Disk.past Y.Disk.faults setup.now nodes.old run →
-        IfErr result (λ fault. HasServeCause
-        (Meets given Y.Disk.tells Y.Disk.past Y.Disk.faults (Y.faults yard.old) (Y.faults yard.new))
-        (setup_in setup.now run) run.events number line (step_stop setup.now number fault)) }
+        Holds given Y.Disk.facts setup.now nodes.old run → IfErr result (λ fault. HasServeCause
+        (Meets given Y.Disk.facts (Y.faults yard.old) (Y.faults yard.new)) (setup_in setup.now run)
+        run.events number line (step_stop setup.now number fault)) }
     ensures other { IfErr result (λ fault. fault ≡ NoSuch → ⊥) }
     ensures later { Y.faults yard.old ≤ Y.faults yard.new }
 {
@@ -247,20 +239,19 @@ pub fn serve<Y: Yard, T: Taker>(
 ) -> Result<(), StepFault>
     requires may { MayRun setup.now }
     requires holds { (given : Giving Y.Disk) × ((run : Run)
-        × Holds given Y.Disk.tells Y.Disk.past Y.Disk.faults setup.now nodes.old run
+        × Holds given Y.Disk.facts setup.now nodes.old run
         × IsNamed (setup_in setup.now run) line) }
     ensures ok { (given : Giving Y.Disk) (run : Run) →
-        Holds given Y.Disk.tells Y.Disk.past Y.Disk.faults setup.now nodes.old run →
-        OnOk result (IsServed given Y.Disk.tells Y.Disk.past Y.Disk.faults setup.now run
-        line nodes.new told.old told.new) }
+        Holds given Y.Disk.facts setup.now nodes.old run →
+        OnOk result (IsServed given Y.Disk.facts setup.now run line nodes.new told.old told.new) }
     ensures free { OnOk result (AsksFree line told.old.takers) }
     ensures gone { IfErr result (λ fault. IsGoneCaused fault line told.old.takers) }
     ensures same { IfErr result (λ fault. fault ≡ NoSuch → told.new ≡ told.old) }
     ensures cause { (given : Giving Y.Disk) (first : Takers) (run : Run) (number : ℕ) →
-        Holds given Y.Disk.tells Y.Disk.past Y.Disk.faults setup.now nodes.old run →
+        Holds given Y.Disk.facts setup.now nodes.old run →
         told.old.takers ≡ all_seen (setup_in setup.now run) run.events first →
-        IfErr result (λ fault. HasServeCause (RunMeets given Y.Disk.tells Y.Disk.past Y.Disk.faults
-        first (Y.faults yard.old) (Y.faults yard.new))
+        IfErr result (λ fault. HasServeCause (RunMeets given Y.Disk.facts first (Y.faults yard.old)
+        (Y.faults yard.new))
         (setup_in setup.now run) run.events number line (step_stop setup.now number fault)) }
     ensures later { Y.faults yard.old ≤ Y.faults yard.new }
 {

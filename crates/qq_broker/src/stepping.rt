@@ -38,11 +38,9 @@ pub fn step<Y: Yard, T: Taker>(
     takers: &mut Desk<T>,
 ) -> Result<Vec<u8>, StepFault>
     requires runs { (given : Giving Y.Disk) × ((run : Run)
-        × Runs given Y.Disk.tells Y.Disk.past Y.Disk.faults broker.old run
-        × IsNamed (setup_in broker.old.setup run) line) }
+        × Runs given Y.Disk.facts broker.old run × IsNamed (setup_in broker.old.setup run) line) }
     ensures ok { (given : Giving Y.Disk) (run : Run) →
-        Runs given Y.Disk.tells Y.Disk.past Y.Disk.faults broker.old run →
-        IfOk result (λ said. HasStepped given Y.Disk.tells Y.Disk.past Y.Disk.faults
+        Runs given Y.Disk.facts broker.old run → IfOk result (λ said. HasStepped given Y.Disk.facts
         broker.old broker.new run line said.items takers.old takers.new) }
     ensures text { IfOk result (λ said. broker.new.text.items ≡ []) }
     ensures setup { broker.new.setup ≡ broker.old.setup }
@@ -50,10 +48,10 @@ pub fn step<Y: Yard, T: Taker>(
     ensures gone { IfErr result (λ fault. IsGoneCaused fault line takers.old) }
     ensures same { IfErr result (λ fault. fault ≡ NoSuch → takers.new ≡ takers.old) }
     ensures cause { (given : Giving Y.Disk) (first : Takers) (run : Run) (number : ℕ) →
-        Runs given Y.Disk.tells Y.Disk.past Y.Disk.faults broker.old run →
+        Runs given Y.Disk.facts broker.old run →
         takers.old ≡ all_seen (setup_in broker.old.setup run) run.events first →
-        IfErr result (λ fault. HasServeCause (RunMeets given Y.Disk.tells Y.Disk.past Y.Disk.faults
-        first (Y.faults yard.old) (Y.faults yard.new))
+        IfErr result (λ fault. HasServeCause (RunMeets given Y.Disk.facts first (Y.faults yard.old)
+        (Y.faults yard.new))
         (setup_in broker.old.setup run) run.events number line
         (step_stop broker.old.setup number fault)) }
     ensures later { Y.faults yard.old ≤ Y.faults yard.new }

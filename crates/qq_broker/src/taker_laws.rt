@@ -20,18 +20,17 @@ use qq_disk::NodeDisk;
 /// - `seen`: what is claimed in the end is that they have seen what the run's events show.
 pub fn takers_of_a_run_see_what_it_shows<D: NodeDisk>()
     ensures free { (given : Giving D) (first : Takers) (s : ScriptSetup) (all left : List Input)
-        (b : Behind (RunHad given D.tells D.past D.faults first) s all left)
-        (before since : List ClusterEvent) (place session tag number : ℕ) →
+        (b : Behind (RunHad given D.facts first) s all left) (before since : List ClusterEvent)
+        (place session tag number : ℕ) →
         b.events ≡ before ++ At place (Attaches session tag number) ∷ since →
         is_free number (takers_after (setup_behind b) (new_cluster (setup_behind b)) before first)
         ≡ true }
     ensures gone { (given : Giving D) (first : Takers) (yard_before yard_after : ℕ) (setup : Setup)
         (events : List ClusterEvent) (number : ℕ) →
-        RunMeets given D.tells D.past D.faults first yard_before yard_after
-        (TakerIsGone setup events number) →
+        RunMeets given D.facts first yard_before yard_after (TakerIsGone setup events number) →
         is_free number (takers_after setup (new_cluster setup) events first) ≡ false }
     ensures seen { (given : Giving D) (first last : Takers) (setup : Setup)
         (events : List ClusterEvent) →
-        (RunClaims given D.tells D.past D.faults first last).finally setup events →
+        (RunClaims given D.facts first last).finally setup events →
         last ≡ takers_after setup (new_cluster setup) events first }
 {}

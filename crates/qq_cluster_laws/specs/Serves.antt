@@ -3,6 +3,7 @@ use Rattle.std.specs.Prelude.{◌≡◌, ◌≤◌, ℕ, Bool, true, false, List
 use Rattle.std.specs.List.{list_any}
 use Rattle.qq_base.specs.Causes.{Rose}
 use Rattle.qq_disk.specs.Disk.{Disk, now}
+use Rattle.qq_disk.specs.Facts.{DiskFacts}
 use Rattle.qq_raft_protocol.specs.Facts.{In}
 use Rattle.qq_cluster.specs.Cluster.{Cluster, ClusterEvent, Setup, Fails, cluster_after}
 use Rattle.qq_cluster.specs.Outcome.{Outcome, takers_after}
@@ -16,8 +17,8 @@ pub record Seen : Type 0 where
   pub past : List Disk
   pub faults : ℕ
 
-abbrev pub seen_of : {D : Type 0} → (D → Bool) → (D → List Disk) → (D → ℕ) → D → Seen
-seen_of tells past faults d = record { tells = tells d; past = past d; faults = faults d }
+abbrev pub seen_of : {D : Type 0} → DiskFacts D → D → Seen
+seen_of facts d = record { tells = facts.tells d; past = facts.past d; faults = facts.faults d }
 
 -- a call of a node's disk has failed
 abbrev pub is_failure_at : ℕ → ClusterEvent → Bool

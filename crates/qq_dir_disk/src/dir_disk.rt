@@ -277,11 +277,11 @@ where
 {
     ghost use Rattle.std.specs.Prelude.{false, []};
 
-    ghost tells = { λ _. false };
-
-    ghost past = { λ _. [] };
-
-    ghost faults = { λ disk. disk.faults.count };
+    ghost facts = { record {
+      tells = λ _. false;
+      past = λ _. [];
+      faults = λ disk. disk.faults.count;
+    } };
 
     fn names(&mut self, alloc: Global) -> Result<Vec<FileName>, DiskFault>
         ensures rising { IfOk result (λ names. IsStrictlySortedBy name_cmp names.items) }

@@ -2,6 +2,7 @@ pub mod Calls
 pub mod Crash
 pub mod Disk
 pub mod Either
+pub mod Facts
 pub mod Fault
 pub mod Image
 pub mod Moments

@@ -1,4 +1,4 @@
-ghost use Rattle.qq_disk.specs.Either.{choose};
+ghost use Rattle.qq_disk.specs.Either.{either_facts};
 
 use crate::{DiskFault, FileName, NodeDisk};
 use std::alloc::Global;
@@ -11,11 +11,7 @@ pub enum EitherDisk<A, B> {
 }
 
 impl<A: NodeDisk, B: NodeDisk> NodeDisk for EitherDisk<A, B> {
-    ghost tells = { λ disk. choose A.tells B.tells disk };
-
-    ghost past = { λ disk. choose A.past B.past disk };
-
-    ghost faults = { λ disk. choose A.faults B.faults disk };
+    ghost facts = { either_facts A.facts B.facts };
 
     fn names(&mut self, alloc: Global) -> Result<Vec<FileName>, DiskFault> {
         match self {

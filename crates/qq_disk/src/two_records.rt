@@ -17,21 +17,22 @@ pub fn store_two<D: NodeDisk>(
     first: &[u8],
     second: &[u8],
 ) -> Result<(), DiskFault>
-    requires { IsTrue (D.tells disk.old) → IsKeptWhole (now (D.past disk.old)) file }
+    requires { IsTrue (D.facts.tells disk.old) → IsKeptWhole (now (D.facts.past disk.old)) file }
 
     // Once the call has returned Ok, each crash leaves a file that has both.
-    ensures stored { IsTrue (D.tells disk.old) →
-        let old = content (now (D.past disk.old)) file in
+    ensures stored { IsTrue (D.facts.tells disk.old) →
+        let old = content (now (D.facts.past disk.old)) file in
         let all = old ++ first.now ++ second.now in
-        OnOk result (Leaves (λ i. i file ≡ Some all) (now (D.past disk.new))) }
+        OnOk result (Leaves (λ i. i file ≡ Some all) (now (D.facts.past disk.new))) }
 
     // At each moment a crash leaves the old bytes, and then others no longer than the new ones.
-    ensures any_moment { IsTrue (D.tells disk.old) →
-        let old = content (now (D.past disk.old)) file in
+    ensures any_moment { IsTrue (D.facts.tells disk.old) →
+        let old = content (now (D.facts.past disk.old)) file in
         let most = length first.now + length second.now in
-        LeavesOnly (λ i. Extends old most (i file)) (D.past disk.old) (D.past disk.new) }
+        LeavesOnly (λ i. Extends old most (i file))
+        (D.facts.past disk.old) (D.facts.past disk.new) }
 
-    ensures cause { HasCause IsCaused (D.faults disk.old) (D.faults disk.new) result }
+    ensures cause { HasCause IsCaused (D.facts.faults disk.old) (D.facts.faults disk.new) result }
 {
     disk.append(alloc, file, first)?;
     disk.append(alloc, file, second)?;

@@ -85,7 +85,7 @@ pub fn a_recovered_log_goes_on_behind_what_was_read<D: NodeDisk>()
         IsNewLog queues log_bytes r →
         nat_le (wal_of r).log_bytes bytes ≡ nat_le log_bytes bytes }
     ensures size { (queues : List QueueId) (log_bytes : ℕ) (r : Recovered D) →
-        IsSound D.tells D.past (wal_of r) → IsNewLog queues log_bytes r →
+        IsSound D.facts (wal_of r) → IsNewLog queues log_bytes r →
         (wal_of r).size ≡ 38 + 78 * length (carries_in (wal_of r).marks) }
 {
     encodings_have_lengths();

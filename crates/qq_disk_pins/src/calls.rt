@@ -79,9 +79,9 @@ pub fn an_append_takes_what_fits<D: NodeDisk>()
 pub fn a_new_file_goes_on_from_the_old_one<D: NodeDisk>()
     ensures names { (old new : Wal D) → IsRolled old new → (new.header.file ≡ old.numbers.log + 1)
         × (new.header.previous ≡ old.header.file) × (new.header.good ≡ old.size) }
-    ensures newer { (old new : Wal D) → IsSound D.tells D.past old → IsRolled old new →
+    ensures newer { (old new : Wal D) → IsSound D.facts old → IsRolled old new →
         old.header.file < new.header.file }
-    ensures size { (old new : Wal D) → IsSound D.tells D.past old → IsRolled old new →
+    ensures size { (old new : Wal D) → IsSound D.facts old → IsRolled old new →
         new.size ≡ 38 + 78 * length (carries_in old.marks) }
     ensures numbers { (old new : Wal D) → IsRolled old new →
         (number_of Log new.numbers ≡ new.header.file)

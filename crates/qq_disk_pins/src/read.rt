@@ -24,16 +24,16 @@ use qq_wal_chain::queues_get_their_first_ops;
 /// - `shows`: its log files are as before.
 /// - `promise`: what was promised is promised.
 pub fn a_disk_that_was_only_read_is_as_before<D: NodeDisk>()
-    ensures tells { (old new : D) → OnlyReads D.tells D.past old new →
-        IsTrue (D.tells old) → IsTrue (D.tells new) }
-    ensures moments { (old new : D) → OnlyReads D.tells D.past old new →
-        IsTrue (D.tells old) → D.past new ≡ D.past old }
-    ensures shows { (old new : D) → OnlyReads D.tells D.past old new → IsTrue (D.tells old) →
-        shown (now (D.past new)) ≡ shown (now (D.past old)) }
+    ensures tells { (old new : D) → OnlyReads D.facts old new →
+        IsTrue (D.facts.tells old) → IsTrue (D.facts.tells new) }
+    ensures moments { (old new : D) → OnlyReads D.facts old new →
+        IsTrue (D.facts.tells old) → D.facts.past new ≡ D.facts.past old }
+    ensures shows { (old new : D) → OnlyReads D.facts old new → IsTrue (D.facts.tells old) →
+        shown (now (D.facts.past new)) ≡ shown (now (D.facts.past old)) }
     ensures promise { (queues : List QueueId) (noticed given : List Op) (old new : D) →
-        OnlyReads D.tells D.past old new → IsTrue (D.tells old) →
-        KeepsPromise queues top noticed given (now (D.past old)) →
-        KeepsPromise queues top noticed given (now (D.past new)) }
+        OnlyReads D.facts old new → IsTrue (D.facts.tells old) →
+        KeepsPromise queues top noticed given (now (D.facts.past old)) →
+        KeepsPromise queues top noticed given (now (D.facts.past new)) }
 {}
 
 /// A disk that reads, and gives what it was promised.

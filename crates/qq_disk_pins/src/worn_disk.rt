@@ -90,11 +90,7 @@ impl NodeDisk for WornDisk {
     ghost use Rattle.std.specs.Prelude.{true};
     ghost use Rattle.qq_disk_pins.specs.WornDisk.{past_of};
 
-    ghost tells = { λ _. true };
-
-    ghost past = { past_of };
-
-    ghost faults = { λ worn. worn.faults };
+    ghost facts = { record { tells = λ _. true; past = past_of; faults = λ worn. worn.faults } };
 
     fn names(&mut self, alloc: Global) -> Result<Vec<FileName>, DiskFault> {
         if self.count_call() {

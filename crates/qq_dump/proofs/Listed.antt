@@ -11,6 +11,7 @@ use Rattle.qq_disk.specs.declared.name.FileKind.{FileKind}
 use Rattle.qq_disk.specs.declared.name.FileKind.TheVariants.{Log, Segment, Snapshot}
 use Rattle.qq_disk.specs.declared.name.FileName.{FileName}
 use Rattle.qq_disk.specs.Disk.{Disk, IsListed, IsListing, contents, now}
+use Rattle.qq_disk.specs.Facts.{DiskFacts}
 use Rattle.qq_disk.specs.Image.{log_of}
 use Rattle.qq_disk.specs.Name.{name_cmp, rank}
 use Rattle.qq_dump.specs.Files.{AreShown, LogFile, files_from, log_files, with_file}
@@ -204,18 +205,19 @@ module _ (d : Disk) where
       )
 
 -- what was written of the files of these numbers was written of the log files of a disk that was only read
-pub all-shown : {D : Type 0} (tells : D → Bool) (past : D → List Disk) (old new : D) (names : List FileName)
-    (numbers : List ℕ) → tells new ≡ tells old → (IsTrue (tells old) → past new ≡ past old)
-    → (IsTrue (tells old) → IsListing (now (past old)) names) → numbers ≡ log_numbers names
+pub all-shown : {D : Type 0} (facts : DiskFacts D) (old new : D) (names : List FileName) (numbers : List ℕ)
+    → facts.tells new ≡ facts.tells old → (IsTrue (facts.tells old) → facts.past new ≡ facts.past old)
+    → (IsTrue (facts.tells old) → IsListing (now (facts.past old)) names) → numbers ≡ log_numbers names
     → ((i : ℕ) → slice_index numbers i < 2 ^ 64) → (IsWritten : List LogFile → Type 0)
-    → ((files : List LogFile) × (IsTrue (tells new) → files ≡ files_of (now (past new)) numbers) × IsWritten files)
-    → (files : List LogFile) × AreShown tells past old files × IsWritten files
-all-shown tells past old new names numbers still same listing numbers-are range IsWritten (files, are, written) =
+    → ((files : List LogFile) × (IsTrue (facts.tells new) → files ≡ files_of (now (facts.past new)) numbers)
+    × IsWritten files)
+    → (files : List LogFile) × AreShown facts old files × IsWritten files
+all-shown facts old new names numbers still same listing numbers-are range IsWritten (files, are, written) =
     (files, shown, written)
   where
-    shown : AreShown tells past old files
+    shown : AreShown facts old files
     shown told =
         are (subst IsTrue (sym still) told) ∙ ap (λ (p : List Disk). files_of (now p) numbers) (same told)
-        ∙ ap (files_of (now (past old))) numbers-are
-        ∙ listed-are (now (past old)) names (listing told)
+        ∙ ap (files_of (now (facts.past old))) numbers-are
+        ∙ listed-are (now (facts.past old)) names (listing told)
         (subst (λ (l : List ℕ). (i : ℕ) → slice_index l i < 2 ^ 64) numbers-are range)

@@ -1,6 +1,7 @@
 -- The log files that a disk shows, and their text.
-use Rattle.std.specs.Prelude.{◌≡◌, ◌^◌, ℕ, zero, suc, Bool, List, [], ◌∷◌, Option, Some, None, flat_map, IsTrue}
+use Rattle.std.specs.Prelude.{◌≡◌, ◌^◌, ℕ, zero, suc, List, [], ◌∷◌, Option, Some, None, flat_map, IsTrue}
 use Rattle.qq_disk.specs.Disk.{Disk, contents, now}
+use Rattle.qq_disk.specs.Facts.{DiskFacts}
 use Rattle.qq_disk.specs.Image.{log_of}
 use Rattle.qq_dump.specs.Text.{file_text}
 
@@ -30,5 +31,5 @@ unfoldable pub log_files : Disk → List LogFile
 log_files d = files_from d 0 (2 ^ 64)
 
 -- These are the log files of a disk. One that tells nothing may have shown any.
-abbrev pub AreShown : {D : Type 0} → (D → Bool) → (D → List Disk) → D → List LogFile → Type 0
-AreShown tells past disk files = IsTrue (tells disk) → files ≡ log_files (now (past disk))
+abbrev pub AreShown : {D : Type 0} → DiskFacts D → D → List LogFile → Type 0
+AreShown facts disk files = IsTrue (facts.tells disk) → files ≡ log_files (now (facts.past disk))

@@ -38,9 +38,10 @@ pub fn log_files_are_those_that_are_shown()
 /// - `sink`: where the sink failed, what was written goes on to the text of all.
 /// - `disk_cause`, `sink_cause`: each of them is told only where its own count of faults rose.
 pub fn a_dump_tells_what_it_wrote<D: NodeDisk>()
-    ensures ok { (disk : D) (files : List LogFile) (old new : List ℕ) → IsTrue (D.tells disk) →
-        AreShown D.tells D.past disk files → Appends (Some old) (Some new) (dump_text files) →
-        new ≡ old ++ dump_text (log_files (now (D.past disk))) }
+    ensures ok { (disk : D) (files : List LogFile) (old new : List ℕ) →
+        IsTrue (D.facts.tells disk) →
+        AreShown D.facts disk files → Appends (Some old) (Some new) (dump_text files) →
+        new ≡ old ++ dump_text (log_files (now (D.facts.past disk))) }
     ensures whole { (fault : DumpFault) (files : List LogFile) (old new : List ℕ) → fault ≢ Sink →
         WritesFirst fault (Some old) (Some new) files → (front rest : List LogFile)
         × (files ≡ front ++ rest) × (new ≡ old ++ dump_text front) }

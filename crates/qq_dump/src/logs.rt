@@ -21,11 +21,12 @@ use std::alloc::Global;
 
 /// All bytes of a log file.
 fn read_log<D: NodeDisk>(disk: &mut D, alloc: Global, number: u64) -> Result<Vec<u8>, DiskFault>
-    ensures ok { IsTrue (D.tells disk.old) → IfOk result (λ bytes.
-        bytes.items ≡ content (now (D.past disk.old)) (log_of number)) }
-    ensures same { IsTrue (D.tells disk.old) → D.past disk.new ≡ D.past disk.old }
-    ensures told { D.tells disk.new ≡ D.tells disk.old }
-    ensures cause { HasCause IsDiskCaused (D.faults disk.old) (D.faults disk.new) result }
+    ensures ok { IsTrue (D.facts.tells disk.old) → IfOk result (λ bytes.
+        bytes.items ≡ content (now (D.facts.past disk.old)) (log_of number)) }
+    ensures same { IsTrue (D.facts.tells disk.old) → D.facts.past disk.new ≡ D.facts.past disk.old }
+    ensures told { D.facts.tells disk.new ≡ D.facts.tells disk.old }
+    ensures cause { HasCause IsDiskCaused
+        (D.facts.faults disk.old) (D.facts.faults disk.new) result }
 {
     let file = FileName {
         kind: FileKind::Log,
@@ -46,17 +47,19 @@ fn dump_log<D: NodeDisk, O: Sink>(
     output: &mut O,
 ) -> Result<(), DumpFault>
     ensures ok { OnOk result ((bytes : List ℕ)
-        × (IsTrue (D.tells disk.old) → bytes ≡ content (now (D.past disk.old)) (log_of number))
+        × (IsTrue (D.facts.tells disk.old) →
+        bytes ≡ content (now (D.facts.past disk.old)) (log_of number))
         × Appends (O.written output.old) (O.written output.new) (file_text number bytes)) }
     ensures err { IfErr result (λ fault. (bytes : List ℕ)
-        × (IsTrue (D.tells disk.old) → bytes ≡ content (now (D.past disk.old)) (log_of number))
+        × (IsTrue (D.facts.tells disk.old) →
+        bytes ≡ content (now (D.facts.past disk.old)) (log_of number))
         × WritesFirst fault (O.written output.old) (O.written output.new)
         (record { number = number; bytes = bytes } ∷ [])) }
-    ensures same { IsTrue (D.tells disk.old) → D.past disk.new ≡ D.past disk.old }
-    ensures told { D.tells disk.new ≡ D.tells disk.old }
-    ensures cause { IfErr result (IsCaused (Rose (D.faults disk.old) (D.faults disk.new))
+    ensures same { IsTrue (D.facts.tells disk.old) → D.facts.past disk.new ≡ D.facts.past disk.old }
+    ensures told { D.facts.tells disk.new ≡ D.facts.tells disk.old }
+    ensures cause { IfErr result (IsCaused (Rose (D.facts.faults disk.old) (D.facts.faults disk.new))
         (Rose (O.faults output.old) (O.faults output.new))) }
-    ensures disk { D.faults disk.old ≤ D.faults disk.new }
+    ensures disk { D.facts.faults disk.old ≤ D.facts.faults disk.new }
     ensures sink { O.faults output.old ≤ O.faults output.new }
 {
     let bytes = match read_log(disk, alloc, number) {
@@ -116,16 +119,18 @@ fn dump_logs<D: NodeDisk, O: Sink>(
     output: &mut O,
 ) -> Result<(), DumpFault>
     ensures ok { OnOk result ((files : List LogFile)
-        × (IsTrue (D.tells disk.old) → files ≡ files_of (now (D.past disk.old)) numbers.now)
+        × (IsTrue (D.facts.tells disk.old) →
+        files ≡ files_of (now (D.facts.past disk.old)) numbers.now)
         × Appends (O.written output.old) (O.written output.new) (dump_text files)) }
     ensures err { IfErr result (λ fault. (files : List LogFile)
-        × (IsTrue (D.tells disk.old) → files ≡ files_of (now (D.past disk.old)) numbers.now)
+        × (IsTrue (D.facts.tells disk.old) →
+        files ≡ files_of (now (D.facts.past disk.old)) numbers.now)
         × WritesFirst fault (O.written output.old) (O.written output.new) files) }
-    ensures same { IsTrue (D.tells disk.old) → D.past disk.new ≡ D.past disk.old }
-    ensures told { D.tells disk.new ≡ D.tells disk.old }
-    ensures cause { IfErr result (IsCaused (Rose (D.faults disk.old) (D.faults disk.new))
+    ensures same { IsTrue (D.facts.tells disk.old) → D.facts.past disk.new ≡ D.facts.past disk.old }
+    ensures told { D.facts.tells disk.new ≡ D.facts.tells disk.old }
+    ensures cause { IfErr result (IsCaused (Rose (D.facts.faults disk.old) (D.facts.faults disk.new))
         (Rose (O.faults output.old) (O.faults output.new))) }
-    ensures disk { D.faults disk.old ≤ D.faults disk.new }
+    ensures disk { D.facts.faults disk.old ≤ D.facts.faults disk.new }
     ensures sink { O.faults output.old ≤ O.faults output.new }
     ensures range { (i : ℕ) → slice_index numbers.now i < 2 ^ 64 }
 {
@@ -153,16 +158,16 @@ pub fn dump<D: NodeDisk, O: Sink>(
     disk: &mut D,
     output: &mut O,
 ) -> Result<(), DumpFault>
-    ensures ok { OnOk result ((files : List LogFile) × AreShown D.tells D.past disk.old files
+    ensures ok { OnOk result ((files : List LogFile) × AreShown D.facts disk.old files
         × Appends (O.written output.old) (O.written output.new) (dump_text files)) }
     ensures err { IfErr result (λ fault. (files : List LogFile)
-        × AreShown D.tells D.past disk.old files
+        × AreShown D.facts disk.old files
         × WritesFirst fault (O.written output.old) (O.written output.new) files) }
-    ensures same { IsTrue (D.tells disk.old) → D.past disk.new ≡ D.past disk.old }
-    ensures told { D.tells disk.new ≡ D.tells disk.old }
-    ensures cause { IfErr result (IsCaused (Rose (D.faults disk.old) (D.faults disk.new))
+    ensures same { IsTrue (D.facts.tells disk.old) → D.facts.past disk.new ≡ D.facts.past disk.old }
+    ensures told { D.facts.tells disk.new ≡ D.facts.tells disk.old }
+    ensures cause { IfErr result (IsCaused (Rose (D.facts.faults disk.old) (D.facts.faults disk.new))
         (Rose (O.faults output.old) (O.faults output.new))) }
-    ensures disk { D.faults disk.old ≤ D.faults disk.new }
+    ensures disk { D.facts.faults disk.old ≤ D.facts.faults disk.new }
     ensures sink { O.faults output.old ≤ O.faults output.new }
 {
     let names = match disk.names(alloc) {

@@ -101,11 +101,11 @@ impl NodeDisk for MemDisk {
     ghost use Rattle.std.specs.Prelude.{true};
     ghost use Rattle.qq_mem_disk.specs.MemDisk.{past_of, counter_of};
 
-    ghost tells = { λ _. true };
-
-    ghost past = { past_of };
-
-    ghost faults = { λ disk. (counter_of disk).faults };
+    ghost facts = { record {
+      tells = λ _. true;
+      past = past_of;
+      faults = λ disk. (counter_of disk).faults;
+    } };
 
     fn names(&mut self, alloc: Global) -> Result<Vec<FileName>, DiskFault>
         ensures ok { IfOk result (λ names. IsListing (now (past_of self.old)) names.items) }

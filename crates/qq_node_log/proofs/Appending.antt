@@ -1,5 +1,5 @@
 -- What waits is gathered, and then appended: what that leaves of the log's parts.
-use Rattle.std.proofs.Common.{◌≡◌, ◌++◌, ℕ, Bool, true, List, [], sym, ap, ◌∙◌, subst, arith}
+use Rattle.std.proofs.Common.{◌≡◌, ◌++◌, true, List, [], sym, ap, ◌∙◌, subst, arith}
 use Rattle.std.specs.Global.{Vec}
 use Rattle.std.specs.Prelude.{IsTrue, fold}
 use Rattle.std.proofs.lemmas.List.Elements.{recursion_from_All}
@@ -8,6 +8,7 @@ use Rattle.qq_base.specs.declared.memory.Memory.{Memory}
 use Rattle.qq_base.specs.declared.memory.Memory.TheVariants.{Want}
 use Rattle.qq_base.proofs.Fronts.{front-more}
 use Rattle.qq_disk.specs.Disk.{Disk, now}
+use Rattle.qq_disk.specs.Facts.{DiskFacts}
 use Rattle.qq_disk.specs.Moments.{Adds}
 use Rattle.qq_disk.proofs.Moments.{adds-none}
 use Rattle.qq_disk.proofs.Stored.{still_tells}
@@ -33,9 +34,9 @@ use Rattle.qq_node_log.proofs.Ending.{long-on}
 use Rattle.qq_node_log.proofs.Same.{same-disk, same-later}
 
 -- a log that may be given ops takes them
-pub ops-go : {D : Type 0} (tells : D → Bool) (past : D → List Disk) (ops : List Op) (wal : Wal D)
-    → MayAppend tells past ops (Open wal) → AllGoOn wal.queues.items (carries_ahead wal) ops
-ops-go tells past ops wal (lot, parts, run, give) =
+pub ops-go : {D : Type 0} (facts : DiskFacts D) (ops : List Op) (wal : Wal D)
+    → MayAppend facts ops (Open wal) → AllGoOn wal.queues.items (carries_ahead wal) ops
+ops-go facts ops wal (lot, parts, run, give) =
     subst (λ (ids : List QueueId). AllGoOn ids (carries_ahead wal) ops) (sym run.queues_are)
     (all-go lot ops parts (carries_ahead wal) (recursion_from_All MayWrite ops give.write)
     (recursion_from_All (λ (op : Op). is_listed (ids_of lot) (queue op) ≡ true) ops give.listed) give.sound run.carries)
@@ -49,16 +50,17 @@ given-promised lot parts ops d p =
     promised-later lot parts (give_batch lot ops parts) d
     (λ place. (front-more (parts place).ops (ops_at lot place ops), omega arith)) p
 
-keeps-given : {D : Type 0} (tells : D → Bool) (past : D → List Disk) (ops : List Op) (old new : Wal D)
-    → (IsTrue (tells old.disk) → old.waiting.items ≡ []
-    → StaysGiven old.queues.items ops (past old.disk) (past new.disk))
-    → CallKeeps tells past (λ (lot : Lot). give_batch lot ops) (Open old) (Open new)
-keeps-given tells past ops old new stays lot parts run tell tied =
-    let adds : Adds (KeepsPromised lot (give_batch lot ops parts)) (past old.disk) (past new.disk) =
+keeps-given : {D : Type 0} (facts : DiskFacts D) (ops : List Op) (old new : Wal D)
+    → (IsTrue (facts.tells old.disk) → old.waiting.items ≡ []
+    → StaysGiven old.queues.items ops (facts.past old.disk) (facts.past new.disk))
+    → CallKeeps facts (λ (lot : Lot). give_batch lot ops) (Open old) (Open new)
+keeps-given facts ops old new stays lot parts run tell tied =
+    let adds : Adds (KeepsPromised lot (give_batch lot ops parts)) (facts.past old.disk) (facts.past new.disk) =
     stays tell run.waiting lot parts run.queues_are tied in (
       adds,
-      promised-now lot (give_batch lot ops parts) (past old.disk) (past new.disk)
-          (given-promised lot parts ops (now (past old.disk)) (tied-promised lot parts (now (past old.disk)) tied)) adds,
+      promised-now lot (give_batch lot ops parts) (facts.past old.disk) (facts.past new.disk)
+          (given-promised lot parts ops (now (facts.past old.disk))
+          (tied-promised lot parts (now (facts.past old.disk)) tied)) adds,
     )
 
 -- ops were gathered
@@ -68,59 +70,58 @@ pub record Gave {D : Type 0} (ops : List Op) (old mid : Wal D) : Type 0 where
   pub same : mid ≡ record old { waiting = mid.waiting }
 
 -- where there was no memory for them nothing was done to the disk
-pub gather-keeps : {D : Type 0} (tells : D → Bool) (past : D → List Disk) (ops : List Op) (old new : Wal D)
+pub gather-keeps : {D : Type 0} (facts : DiskFacts D) (ops : List Op) (old new : Wal D)
     → new ≡ record old { waiting = new.waiting }
-    → CallKeeps tells past (λ (lot : Lot). give_batch lot ops) (Open old) (Open new)
-gather-keeps {D} tells past ops old new same =
-    keeps-given tells past ops old new
-    (λ tell none lot parts is tied.
-    subst (λ (w : Wal D). Adds (KeepsPromised lot (give_batch lot ops parts)) (past old.disk) (past w.disk)) (sym same)
-    (adds-none (KeepsPromised lot (give_batch lot ops parts)) (past old.disk)))
+    → CallKeeps facts (λ (lot : Lot). give_batch lot ops) (Open old) (Open new)
+gather-keeps {D} facts ops old new same =
+    keeps-given facts ops old new (λ tell none lot parts is tied.
+    subst (λ (w : Wal D). Adds (KeepsPromised lot (give_batch lot ops parts)) (facts.past old.disk) (facts.past w.disk))
+    (sym same) (adds-none (KeepsPromised lot (give_batch lot ops parts)) (facts.past old.disk)))
 
-pub gather-same : {D : Type 0} (tells : D → Bool) (past : D → List Disk) (faults : D → ℕ) (old new : Wal D)
-    → new ≡ record old { waiting = new.waiting } → KeepsDisk tells past faults (Open old) (Open new)
-gather-same {D} tells past faults old new same lot parts run = record {
-  told = ap (λ (w : Wal D). tells w.disk) same;
-  later = omega (arith, ap (λ (w : Wal D). faults w.disk) same);
-  whole = subst (λ (w : Wal D). IsWhole tells past (ids_of lot) old.disk → IsWhole tells past (ids_of lot) w.disk)
+pub gather-same : {D : Type 0} (facts : DiskFacts D) (old new : Wal D)
+    → new ≡ record old { waiting = new.waiting } → KeepsDisk facts (Open old) (Open new)
+gather-same {D} facts old new same lot parts run = record {
+  told = ap (λ (w : Wal D). facts.tells w.disk) same;
+  later = omega (arith, ap (λ (w : Wal D). facts.faults w.disk) same);
+  whole = subst (λ (w : Wal D). IsWhole facts (ids_of lot) old.disk → IsWhole facts (ids_of lot) w.disk)
       (sym same) (λ is. is);
 }
 
 -- what a write does to the log that ops were gathered for
-pub record Wrote {D : Type 0} (tells : D → Bool) (past : D → List Disk) (faults : D → ℕ) (mid new : Wal D) : Type 0 where
-  pub same : SameLog tells past faults mid new
-  pub stays : IsTrue (tells mid.disk)
-      → StaysWriting mid.queues.items mid.waiting.items (past mid.disk) (past new.disk)
+pub record Wrote {D : Type 0} (facts : DiskFacts D) (mid new : Wal D) : Type 0 where
+  pub same : SameLog facts mid new
+  pub stays : IsTrue (facts.tells mid.disk)
+      → StaysWriting mid.queues.items mid.waiting.items (facts.past mid.disk) (facts.past new.disk)
 
-module _ {D : Type 0} (tells : D → Bool) (past : D → List Disk) (faults : D → ℕ) (ops : List Op) (old mid new : Wal D)
-    (gave : Gave ops old mid) (wrote : Wrote tells past faults mid new) where
-  was : Wrote tells past faults (record old { waiting = mid.waiting }) new
-  was = subst (λ (w : Wal D). Wrote tells past faults w new) gave.same wrote
+module _ {D : Type 0} (facts : DiskFacts D) (ops : List Op) (old mid new : Wal D) (gave : Gave ops old mid)
+    (wrote : Wrote facts mid new) where
+  was : Wrote facts (record old { waiting = mid.waiting }) new
+  was = subst (λ (w : Wal D). Wrote facts w new) gave.same wrote
 
   waits : old.waiting.items ≡ [] → op_records ops ≡ mid.waiting.items
   waits none = sym (gave.waiting ∙ ap (λ (l : List LogRecord). l ++ op_records ops) none)
 
-  pub write-keeps : CallKeeps tells past (λ (lot : Lot). give_batch lot ops) (Open old) (Open new)
-  write-keeps = keeps-given tells past ops old new (λ tell none. was.stays tell ops (waits none))
+  pub write-keeps : CallKeeps facts (λ (lot : Lot). give_batch lot ops) (Open old) (Open new)
+  write-keeps = keeps-given facts ops old new (λ tell none. was.stays tell ops (waits none))
 
-  pub write-same : KeepsDisk tells past faults (Open old) (Open new)
+  pub write-same : KeepsDisk facts (Open old) (Open new)
   write-same lot parts run =
-      same-disk tells past faults (ids_of lot) (record old { waiting = mid.waiting }) new was.same run.queues_are
+      same-disk facts (ids_of lot) (record old { waiting = mid.waiting }) new was.same run.queues_are
 
-  pub write-later : IsLater tells past old.disk new.disk
-  write-later = same-later tells past faults (record old { waiting = mid.waiting }) new was.same
+  pub write-later : IsLater facts old.disk new.disk
+  write-later = same-later facts (record old { waiting = mid.waiting }) new was.same
 
-  pub write-shown : (memory : Memory) → IsLongGoing new memory → IsTrue (tells old.disk)
-      → IsLongOn memory (now (past new.disk))
-  write-shown memory long tell = long-on tells past new memory was.same.sound (still_tells was.same.told tell) long
+  pub write-shown : (memory : Memory) → IsLongGoing new memory → IsTrue (facts.tells old.disk)
+      → IsLongOn memory (now (facts.past new.disk))
+  write-shown memory long tell = long-on facts new memory was.same.sound (still_tells was.same.told tell) long
 
   -- ---- a log that goes on
 
-  pub write-runs : AllGoOn old.queues.items (carries_ahead old) ops → HasWritten tells past mid new
-      → RunsOn tells past (λ (lot : Lot). give_batch lot ops) (Open old) (Open new)
+  pub write-runs : AllGoOn old.queues.items (carries_ahead old) ops → HasWritten facts mid new
+      → RunsOn facts (λ (lot : Lot). give_batch lot ops) (Open old) (Open new)
   write-runs goes done =
-      let h : HasWritten tells past (record old { waiting = mid.waiting }) new =
-      subst (λ (w : Wal D). HasWritten tells past w new) gave.same done in
+      let h : HasWritten facts (record old { waiting = mid.waiting }) new =
+      subst (λ (w : Wal D). HasWritten facts w new) gave.same done in
       record {
         running = λ lot parts run. record {
           sound = was.same.sound;

@@ -8,6 +8,7 @@ use Rattle.std.specs.Prelude.{Err, IsTrue, nat_lt}
 use Rattle.qq_base.specs.declared.ids.QueueId.{QueueId}
 use Rattle.qq_base.specs.declared.memory.Memory.TheVariants.{Want, Spent}
 use Rattle.qq_disk.specs.Disk.{Disk, now}
+use Rattle.qq_disk.specs.Facts.{DiskFacts}
 use Rattle.qq_disk.specs.Moments.{Adds}
 use Rattle.qq_disk.proofs.Moments.{adds-none, adds-then}
 use Rattle.qq_disk.proofs.Stored.{still_tells}
@@ -52,13 +53,13 @@ batch-is lengths n (suc count) waiting fit batch =
     subst (λ (b : Bool). IsBatchOf b waiting (suc count)) (sym (lt-ltb 0 (suc count) (omega arith)))
     (omega (arith, batch.within, length-drop (suc count) waiting))
 
-pub appends-some : {D : Type 0} (tells : D → Bool) (past : D → List Disk)
+pub appends-some : {D : Type 0} (facts : DiskFacts D)
     (lengths : (file : ℕ) (r : LogRecord) → length (record_encoding file r) ≡ 25 + payload_length r) (count : ℕ)
     (old new : Wal D) → AllFitBatch old.waiting.items → Appends count old new
-    → (IsTrue (tells old.disk)
-    → AppendsFirst old.queues.items count old.waiting.items (past old.disk) (past new.disk))
-    → AppendsSome tells past (nat_lt 0 count) old new
-appends-some tells past lengths count old new fit a appended = record {
+    → (IsTrue (facts.tells old.disk)
+    → AppendsFirst old.queues.items count old.waiting.items (facts.past old.disk) (facts.past new.disk))
+    → AppendsSome facts (nat_lt 0 count) old new
+appends-some facts lengths count old new fit a appended = record {
   count = count;
   batch = batch-is lengths old.header.file count old.waiting.items fit a.batch;
   waiting = a.waiting;
@@ -67,9 +68,9 @@ appends-some tells past lengths count old new fit a appended = record {
 }
 
 -- a batch was taken, so less waits
-pub less-waits : {D : Type 0} (tells : D → Bool) (past : D → List Disk) (more : Bool) (old new : Wal D) → more ≡ true
-    → AppendsSome tells past more old new → length new.waiting.items < length old.waiting.items
-less-waits tells past more old new is s =
+pub less-waits : {D : Type 0} (facts : DiskFacts D) (more : Bool) (old new : Wal D) → more ≡ true
+    → AppendsSome facts more old new → length new.waiting.items < length old.waiting.items
+less-waits facts more old new is s =
     omega (
       arith,
       subst (λ (b : Bool). IsBatchOf b old.waiting.items s.count) is s.batch,
@@ -81,9 +82,9 @@ none-left zero = refl
 none-left (suc k) = refl
 
 -- nothing was taken, so nothing waits
-pub nothing-waits : {D : Type 0} (tells : D → Bool) (past : D → List Disk) (more : Bool) (old new : Wal D)
-    → more ≡ false → AppendsSome tells past more old new → new.waiting.items ≡ []
-nothing-waits tells past more old new is s =
+pub nothing-waits : {D : Type 0} (facts : DiskFacts D) (more : Bool) (old new : Wal D)
+    → more ≡ false → AppendsSome facts more old new → new.waiting.items ≡ []
+nothing-waits facts more old new is s =
     s.waiting ∙ ap (drop s.count) (subst (λ (b : Bool). IsBatchOf b old.waiting.items s.count) is s.batch)
     ∙ none-left s.count
 
@@ -151,29 +152,29 @@ some-next queues count waiting old mid new lacks stays ops is lot parts same tie
 -- ---- as a loop goes on
 
 -- so many of what waited are appended, and the others wait
-pub record Begun {D : Type 0} (tells : D → Bool) (past : D → List Disk) (old new : Wal D) : Type 0 where
+pub record Begun {D : Type 0} (facts : DiskFacts D) (old new : Wal D) : Type 0 where
   pub count : ℕ
   pub waiting : new.waiting.items ≡ drop count old.waiting.items
-  pub lacks : IsTrue (tells old.disk)
-      → Lacks old.queues.items count old.waiting.items (past old.disk) (past new.disk)
+  pub lacks : IsTrue (facts.tells old.disk)
+      → Lacks old.queues.items count old.waiting.items (facts.past old.disk) (facts.past new.disk)
 
-pub begun-none : {D : Type 0} (tells : D → Bool) (past : D → List Disk) (w : Wal D) → Begun tells past w w
-begun-none tells past w =
-    record { count = 0; waiting = refl; lacks = λ told. lacks-all w.queues.items w.waiting.items (past w.disk) }
+pub begun-none : {D : Type 0} (facts : DiskFacts D) (w : Wal D) → Begun facts w w
+begun-none facts w =
+    record { count = 0; waiting = refl; lacks = λ told. lacks-all w.queues.items w.waiting.items (facts.past w.disk) }
 
 -- one batch more
-pub begun-more : {D : Type 0} (tells : D → Bool) (past : D → List Disk) (more : Bool) (old mid new : Wal D)
-    → mid.queues ≡ old.queues → tells mid.disk ≡ tells old.disk → Begun tells past old mid
-    → AppendsSome tells past more mid new → Begun tells past old new
-begun-more tells past more old mid new queues told b s = record {
+pub begun-more : {D : Type 0} (facts : DiskFacts D) (more : Bool) (old mid new : Wal D)
+    → mid.queues ≡ old.queues → facts.tells mid.disk ≡ facts.tells old.disk → Begun facts old mid
+    → AppendsSome facts more mid new → Begun facts old new
+begun-more facts more old mid new queues told b s = record {
   count = b.count + s.count;
   waiting = s.waiting ∙ ap (drop s.count) b.waiting ∙ drop-drop s.count b.count old.waiting.items;
-  lacks = λ tell. lacks-next old.queues.items b.count s.count old.waiting.items (past old.disk) (past mid.disk)
-      (past new.disk) (b.lacks tell)
-      (subst (λ (ids : List QueueId). AppendsFirst ids s.count (drop b.count old.waiting.items) (past mid.disk)
-      (past new.disk)) (ap (λ (q : Vec QueueId). q.items) queues)
-      (subst (λ (rs : List LogRecord). AppendsFirst mid.queues.items s.count rs (past mid.disk) (past new.disk))
-      b.waiting (s.appended (still_tells told tell))));
+  lacks = λ tell. lacks-next old.queues.items b.count s.count old.waiting.items
+      (facts.past old.disk) (facts.past mid.disk) (facts.past new.disk) (b.lacks tell)
+      (subst (λ (ids : List QueueId). AppendsFirst ids s.count (drop b.count old.waiting.items) (facts.past mid.disk)
+      (facts.past new.disk)) (ap (λ (q : Vec QueueId). q.items) queues)
+      (subst (λ (rs : List LogRecord). AppendsFirst mid.queues.items s.count rs
+      (facts.past mid.disk) (facts.past new.disk)) b.waiting (s.appended (still_tells told tell))));
 }
 
 no-records : (ops : List Op) → op_records ops ≡ [] → ops ≡ []
@@ -181,33 +182,34 @@ no-records [] none = refl
 no-records (op ∷ ops) none = absurd cc
 
 -- nothing waits any more
-pub begun-all : {D : Type 0} (tells : D → Bool) (past : D → List Disk) (old new : Wal D) → Begun tells past old new
-    → new.waiting.items ≡ [] → IsTrue (tells old.disk)
-    → HoldsWritten old.queues.items old.waiting.items (past old.disk) (past new.disk)
-begun-all tells past old new b none tell ops is lot parts same tied =
-    lacks-none lot (give_batch lot ops parts) (now (past new.disk))
-    (subst (λ (l : List Op). LacksRest lot (give_batch lot ops parts) l (now (past new.disk)))
+pub begun-all : {D : Type 0} (facts : DiskFacts D) (old new : Wal D) → Begun facts old new
+    → new.waiting.items ≡ [] → IsTrue (facts.tells old.disk)
+    → HoldsWritten old.queues.items old.waiting.items (facts.past old.disk) (facts.past new.disk)
+begun-all facts old new b none tell ops is lot parts same tied =
+    lacks-none lot (give_batch lot ops parts) (now (facts.past new.disk))
+    (subst (λ (l : List Op). LacksRest lot (give_batch lot ops parts) l (now (facts.past new.disk)))
     (no-records (drop b.count ops)
     (sym (drop-map OpRecord b.count ops) ∙ ap (drop b.count) is ∙ sym b.waiting ∙ none))
     (b.lacks tell ops is lot parts same tied).1)
 
 -- each moment has kept the promise
-pub begun-stays : {D : Type 0} (tells : D → Bool) (past : D → List Disk) (old new : Wal D) → Begun tells past old new
-    → IsTrue (tells old.disk) → StaysWriting old.queues.items old.waiting.items (past old.disk) (past new.disk)
-begun-stays tells past old new b tell ops is lot parts same tied = (b.lacks tell ops is lot parts same tied).0
+pub begun-stays : {D : Type 0} (facts : DiskFacts D) (old new : Wal D) → Begun facts old new
+    → IsTrue (facts.tells old.disk) → StaysWriting old.queues.items old.waiting.items
+    (facts.past old.disk) (facts.past new.disk)
+begun-stays facts old new b tell ops is lot parts same tied = (b.lacks tell ops is lot parts same tied).0
 
 -- also where it fails at a later batch
-pub begun-some : {D : Type 0} (tells : D → Bool) (past : D → List Disk) (old mid new : Wal D)
-    → mid.queues ≡ old.queues → Begun tells past old mid → IsTrue (tells old.disk)
-    → StaysAppending mid.queues.items mid.waiting.items (past mid.disk) (past new.disk)
-    → StaysWriting old.queues.items old.waiting.items (past old.disk) (past new.disk)
-begun-some tells past old mid new queues b tell stays =
-    some-next old.queues.items b.count old.waiting.items (past old.disk) (past mid.disk) (past new.disk)
-    (b.lacks tell)
-    (subst (λ (ids : List QueueId). StaysAppending ids (drop b.count old.waiting.items) (past mid.disk)
-    (past new.disk)) (ap (λ (q : Vec QueueId). q.items) queues)
-    (subst (λ (rs : List LogRecord). StaysAppending mid.queues.items rs (past mid.disk) (past new.disk)) b.waiting
-    stays))
+pub begun-some : {D : Type 0} (facts : DiskFacts D) (old mid new : Wal D)
+    → mid.queues ≡ old.queues → Begun facts old mid → IsTrue (facts.tells old.disk)
+    → StaysAppending mid.queues.items mid.waiting.items (facts.past mid.disk) (facts.past new.disk)
+    → StaysWriting old.queues.items old.waiting.items (facts.past old.disk) (facts.past new.disk)
+begun-some facts old mid new queues b tell stays =
+    some-next old.queues.items b.count old.waiting.items (facts.past old.disk) (facts.past mid.disk)
+    (facts.past new.disk) (b.lacks tell)
+    (subst (λ (ids : List QueueId). StaysAppending ids (drop b.count old.waiting.items) (facts.past mid.disk)
+    (facts.past new.disk)) (ap (λ (q : Vec QueueId). q.items) queues)
+    (subst (λ (rs : List LogRecord). StaysAppending mid.queues.items rs
+    (facts.past mid.disk) (facts.past new.disk)) b.waiting stays))
 
 -- ---- why it gave up
 

@@ -1,10 +1,11 @@
 -- A number at its end is that of the log's file on the disk.
-use Rattle.std.proofs.Common.{◌≡◌, ◌≤◌, ◌<◌, ◌⊎◌, ℕ, Bool, true, false, List, [], ◌++◌, Option, Some, refl, sym, ap, ◌∙◌, subst, arith, is_some, inl, inr}
+use Rattle.std.proofs.Common.{◌≡◌, ◌≤◌, ◌<◌, ◌⊎◌, ℕ, Bool, true, false, [], ◌++◌, Option, Some, refl, sym, ap, ◌∙◌, subst, arith, is_some, inl, inr}
 use Rattle.std.specs.Prelude.{Err, IsTrue, Result}
 use Rattle.std.proofs.lemmas.Bool.{false≢true}
 use Rattle.qq_base.specs.declared.memory.Memory.{Memory}
 use Rattle.qq_base.specs.declared.memory.Memory.TheVariants.{Want, Spent}
 use Rattle.qq_disk.specs.Disk.{Disk, FileState, IsListed, file_content, now}
+use Rattle.qq_disk.specs.Facts.{DiskFacts}
 use Rattle.qq_disk.specs.Image.{log_of}
 use Rattle.qq_wal.specs.declared.fault.WalFault.{WalFault}
 use Rattle.qq_wal.specs.declared.fault.WalFault.TheVariants.{Memory as OfMemory}
@@ -16,20 +17,20 @@ use Rattle.qq_node_log.specs.Log.{IsGrown, IsInNewest, IsLater}
 use Rattle.qq_node_log.specs.Syncing.{GoesOnAt, IsLast, IsLastOn}
 
 -- a log whose memory was gathered alone is where it was
-pub gathered-later : {D : Type 0} (tells : D → Bool) (past : D → List Disk) (old new : Wal D)
-    → new ≡ record old { waiting = new.waiting } → IsLater tells past old.disk new.disk
-gathered-later {D} tells past old new same = record {
-  told = ap (λ (w : Wal D). tells w.disk) same;
-  grown = λ tell. ([], ap (λ (w : Wal D). past w.disk) same);
+pub gathered-later : {D : Type 0} (facts : DiskFacts D) (old new : Wal D)
+    → new ≡ record old { waiting = new.waiting } → IsLater facts old.disk new.disk
+gathered-later {D} facts old new same = record {
+  told = ap (λ (w : Wal D). facts.tells w.disk) same;
+  grown = λ tell. ([], ap (λ (w : Wal D). facts.past w.disk) same);
 }
 
 -- the file that is written to is as long as the log knows
-pub long-on : {D : Type 0} (tells : D → Bool) (past : D → List Disk) (wal : Wal D) (memory : Memory)
-    → IsSound tells past wal → IsTrue (tells wal.disk) → IsLongGoing wal memory
-    → IsLongOn memory (now (past wal.disk))
-long-on tells past wal Want sound tell long = tt
-long-on tells past wal (Spent number) sound tell long =
-    let on : IsOnDisk wal.queues.items wal.header wal.marks wal.size wal.numbers (now (past wal.disk)) =
+pub long-on : {D : Type 0} (facts : DiskFacts D) (wal : Wal D) (memory : Memory)
+    → IsSound facts wal → IsTrue (facts.tells wal.disk) → IsLongGoing wal memory
+    → IsLongOn memory (now (facts.past wal.disk))
+long-on facts wal Want sound tell long = tt
+long-on facts wal (Spent number) sound tell long =
+    let on : IsOnDisk wal.queues.items wal.header wal.marks wal.size wal.numbers (now (facts.past wal.disk)) =
     sound.on_disk tell long.1 in
     record {
       file = wal.header.file;
@@ -38,12 +39,12 @@ long-on tells past wal (Spent number) sound tell long =
     }
 
 -- and it is there, and the newest
-pub last-on : {D : Type 0} (tells : D → Bool) (past : D → List Disk) (wal : Wal D) (memory : Memory)
-    → IsSound tells past wal → IsTrue (tells wal.disk) → IsInNewest wal → GoesOnAt wal memory → IsLast wal memory
-    → IsLastOn memory (now (past wal.disk))
-last-on tells past wal Want sound tell newest going last = tt
-last-on tells past wal (Spent number) sound tell newest going last =
-    let d : Disk = now (past wal.disk) in
+pub last-on : {D : Type 0} (facts : DiskFacts D) (wal : Wal D) (memory : Memory)
+    → IsSound facts wal → IsTrue (facts.tells wal.disk) → IsInNewest wal → GoesOnAt wal memory → IsLast wal memory
+    → IsLastOn memory (now (facts.past wal.disk))
+last-on facts wal Want sound tell newest going last = tt
+last-on facts wal (Spent number) sound tell newest going last =
+    let d : Disk = now (facts.past wal.disk) in
     let on : IsOnDisk wal.queues.items wal.header wal.marks wal.size wal.numbers d = sound.on_disk tell going in
     let is : number ≡ wal.header.file = last.0 ∙ newest in
     record {

@@ -12,6 +12,7 @@ use Rattle.qq_base.specs.declared.memory.Memory.{Memory}
 use Rattle.qq_disk.specs.Crash.{Remains}
 use Rattle.qq_disk.specs.declared.image.Image.{Image}
 use Rattle.qq_disk.specs.Disk.{Disk, now}
+use Rattle.qq_disk.specs.Facts.{DiskFacts}
 use Rattle.qq_disk.specs.Image.{image_of}
 use Rattle.qq_disk.proofs.Named.{named}
 use Rattle.qq_log.specs.Carries.{carry_or_new, is_listed}
@@ -88,11 +89,11 @@ all-listed lot = by lot.places (λ id found. found)
           (or_right (eqb (lot.id place).0 id.0) (is_listed (map lot.id places) id) found)),
     )
 
-pub goes-on : {D : Type 0} (tells : D → Bool) (past : D → List Disk) (queues : List QueueId) (log_bytes : ℕ)
-    (r : Recovered D) → IsSound tells past (wal_of r) → KnowsLanes queues r → IsNewLog queues log_bytes r
+pub goes-on : {D : Type 0} (facts : DiskFacts D) (queues : List QueueId) (log_bytes : ℕ) (r : Recovered D)
+    → IsSound facts (wal_of r) → KnowsLanes queues r → IsNewLog queues log_bytes r
     → (lot : Lot) (parts : Parts) → queues ≡ ids_of lot → AllEnd lot parts (lanes_left r)
-    → IsRunning tells past lot (find_each (ops_found lot (lanes_left r)) parts) (wal_of r)
-goes-on tells past queues log_bytes r sound knows new lot parts same end = record {
+    → IsRunning facts lot (find_each (ops_found lot (lanes_left r)) parts) (wal_of r)
+goes-on facts queues log_bytes r sound knows new lot parts same end = record {
   sound = sound;
   queues_are = new.above.queues_are ∙ same;
   waiting = new.above.begun.waiting;
@@ -166,27 +167,28 @@ wants-keeping past queues old memory disk r same stays =
 
 -- ---- both
 
-pub has-found : {D : Type 0} (tells : D → Bool) (past : D → List Disk) (queues : List QueueId) (log_bytes : ℕ) (disk : D)
-    (r : Recovered D) (w : Wal D) (taken : Vec (Option Lane)) → w ≡ wal_of r
+pub has-found : {D : Type 0} (facts : DiskFacts D) (queues : List QueueId) (log_bytes : ℕ) (disk : D) (r : Recovered D)
+    (w : Wal D) (taken : Vec (Option Lane)) → w ≡ wal_of r
     → AreLanes queues (lanes_left r) taken.items
     → AllByRecursion (λ (lane : Option Lane). IfSome lane IsWithinEnds) taken.items
-    → IsSound tells past (wal_of r) → KnowsLanes queues r → IsNewLog queues log_bytes r
-    → (IsTrue (tells disk) → lanes_read queues (shown (now (past disk))) ≡ Ok (lanes_left r))
-    → (IsTrue (tells disk) → Stays queues (past disk) (past (wal_of r).disk))
-    → (IsTrue (tells disk) → (noticed given : List Op) → KeepsPromise queues top noticed given (now (past disk))
-    → SettlesLanes queues noticed given (lanes_left r) (now (past (wal_of r).disk)))
-    → HasFound tells past queues log_bytes disk (record { wal = w; lanes = taken })
-has-found tells past queues log_bytes disk r w taken same lanes within sound knows new read stays settles =
-    subst (λ (v : Wal _). HasFound tells past queues log_bytes disk (record { wal = v; lanes = taken })) (sym same)
-    (record {
+    → IsSound facts (wal_of r) → KnowsLanes queues r → IsNewLog queues log_bytes r
+    → (IsTrue (facts.tells disk) → lanes_read queues (shown (now (facts.past disk))) ≡ Ok (lanes_left r))
+    → (IsTrue (facts.tells disk) → Stays queues (facts.past disk) (facts.past (wal_of r).disk))
+    → (IsTrue (facts.tells disk) → (noticed given : List Op) → KeepsPromise queues top noticed given
+    (now (facts.past disk))
+    → SettlesLanes queues noticed given (lanes_left r) (now (facts.past (wal_of r).disk)))
+    → HasFound facts queues log_bytes disk (record { wal = w; lanes = taken })
+has-found facts queues log_bytes disk r w taken same lanes within sound knows new read stays settles =
+    subst (λ (v : Wal _). HasFound facts queues log_bytes disk (record { wal = v; lanes = taken })) (sym same) (record {
       lanes = lanes_left r;
       each = lanes;
       within = within;
       limit = new.above.begun.limit;
-      goes_on = goes-on tells past queues log_bytes r sound knows new;
+      goes_on = goes-on facts queues log_bytes r sound knows new;
       read = read;
-      settles = λ told. settles-lot queues (lanes_left r) (past disk) (past (wal_of r).disk) (stays told) (settles told);
-      new = λ told. new-none queues (lanes_left r) (past disk) (now (past (wal_of r).disk)) (settles told);
+      settles = λ told. settles-lot queues (lanes_left r) (facts.past disk) (facts.past (wal_of r).disk)
+          (stays told) (settles told);
+      new = λ told. new-none queues (lanes_left r) (facts.past disk) (now (facts.past (wal_of r).disk)) (settles told);
     })
 
 -- ---- crashes

@@ -1,10 +1,10 @@
 -- Ops are gathered, one after the other.
-use Rattle.std.proofs.Common.{◌≡◌, Bool, false, List, [], ◌∷◌, ◌++◌, refl, sym, ap, ◌∙◌, subst, append_assoc, append-nil}
+use Rattle.std.proofs.Common.{◌≡◌, false, List, [], ◌∷◌, ◌++◌, refl, sym, ap, ◌∙◌, subst, append_assoc, append-nil}
 use Rattle.std.specs.Prelude.{All, fold}
 use Rattle.std.proofs.lemmas.Bool.{false≢true, le-leb}
 use Rattle.std.proofs.lemmas.List.Elements.{All-head, All-tail}
 use Rattle.qq_base.specs.declared.ids.QueueId.{QueueId}
-use Rattle.qq_disk.specs.Disk.{Disk}
+use Rattle.qq_disk.specs.Facts.{DiskFacts}
 use Rattle.qq_log.specs.Carries.{Carries, GoesOn, add_op}
 use Rattle.qq_log.specs.declared.limits.TheConstants.{RECORD_LIMIT}
 use Rattle.qq_log.specs.declared.op.Op.{Op}
@@ -21,9 +21,8 @@ pub never-large : (op : Op) → MayWrite op → is_short op ≡ false → ⊥
 never-large op may large = false≢true (sym large ∙ le-leb (record_length op) RECORD_LIMIT may.short)
 
 -- With the rest all ops are gathered, and the rest goes on.
-pub record Gathered {D : Type 0} (tells : D → Bool) (past : D → List Disk) (ops rest : List Op) (old wal : Wal D)
-    : Type 0 where
-  pub sound : IsSound tells past wal
+pub record Gathered {D : Type 0} (facts : DiskFacts D) (ops rest : List Op) (old wal : Wal D) : Type 0 where
+  pub sound : IsSound facts wal
   pub going : wal.stopped ≡ false
   pub may : All MayWrite rest
   pub goes_on : AllGoOn wal.queues.items (carries_ahead wal) rest
@@ -31,30 +30,29 @@ pub record Gathered {D : Type 0} (tells : D → Bool) (past : D → List Disk) (
   pub ahead : fold add_op (carries_ahead wal) rest ≡ fold add_op (carries_ahead old) ops
   pub same : wal ≡ record old { waiting = wal.waiting }
 
-pub gathered-none : {D : Type 0} (tells : D → Bool) (past : D → List Disk) (ops rest : List Op) (wal : Wal D)
-    → rest ≡ ops → IsSound tells past wal → wal.stopped ≡ false → All MayWrite ops
-    → AllGoOn wal.queues.items (carries_ahead wal) ops → Gathered tells past ops rest wal wal
-gathered-none tells past ops rest wal is sound going may goes =
-    subst (λ (l : List Op). Gathered tells past ops l wal wal) (sym is)
+pub gathered-none : {D : Type 0} (facts : DiskFacts D) (ops rest : List Op) (wal : Wal D)
+    → rest ≡ ops → IsSound facts wal → wal.stopped ≡ false → All MayWrite ops
+    → AllGoOn wal.queues.items (carries_ahead wal) ops → Gathered facts ops rest wal wal
+gathered-none facts ops rest wal is sound going may goes =
+    subst (λ (l : List Op). Gathered facts ops l wal wal) (sym is)
     (record { sound = sound; going = going; may = may; goes_on = goes; waiting = refl; ahead = refl; same = refl })
 
-pub next-op : {D : Type 0} (tells : D → Bool) (past : D → List Disk) (ops rest later : List Op) (op : Op) (old wal : Wal D)
-    → rest ≡ op ∷ later → Gathered tells past ops rest old wal
-    → MayWrite op × GoesOn wal.queues.items (carries_ahead wal) op
-next-op tells past ops rest later op old wal is g =
-    let h : Gathered tells past ops (op ∷ later) old wal =
-    subst (λ (l : List Op). Gathered tells past ops l old wal) is g in
+pub next-op : {D : Type 0} (facts : DiskFacts D) (ops rest later : List Op) (op : Op) (old wal : Wal D)
+    → rest ≡ op ∷ later → Gathered facts ops rest old wal → MayWrite op × GoesOn wal.queues.items (carries_ahead wal) op
+next-op facts ops rest later op old wal is g =
+    let h : Gathered facts ops (op ∷ later) old wal =
+    subst (λ (l : List Op). Gathered facts ops l old wal) is g in
     (All-head MayWrite op later h.may, h.goes_on.0)
 
 -- one more
-pub gathered-more : {D : Type 0} (tells : D → Bool) (past : D → List Disk) (ops rest later : List Op) (op : Op)
-    (old wal next : Wal D) → rest ≡ op ∷ later → Gathered tells past ops rest old wal → IsSound tells past next
+pub gathered-more : {D : Type 0} (facts : DiskFacts D) (ops rest later : List Op) (op : Op) (old wal next : Wal D)
+    → rest ≡ op ∷ later → Gathered facts ops rest old wal → IsSound facts next
     → next.waiting.items ≡ wal.waiting.items ++ op_records (op ∷ [])
     → carries_ahead next ≡ add_op (carries_ahead wal) op → next ≡ record wal { waiting = next.waiting }
-    → Gathered tells past ops later old next
-gathered-more {D} tells past ops rest later op old wal next is g sound waits ahead same =
-    let h : Gathered tells past ops (op ∷ later) old wal =
-    subst (λ (l : List Op). Gathered tells past ops l old wal) is g in
+    → Gathered facts ops later old next
+gathered-more {D} facts ops rest later op old wal next is g sound waits ahead same =
+    let h : Gathered facts ops (op ∷ later) old wal =
+    subst (λ (l : List Op). Gathered facts ops l old wal) is g in
     let queues : next.queues.items ≡ wal.queues.items = ap (λ (w : Wal D). w.queues.items) same in
     record {
       sound = sound;
@@ -69,10 +67,10 @@ gathered-more {D} tells past ops rest later op old wal next is g sound waits ahe
     }
 
 -- all of them
-pub gathered-all : {D : Type 0} (tells : D → Bool) (past : D → List Disk) (ops rest : List Op) (old wal : Wal D)
-    → rest ≡ [] → Gathered tells past ops rest old wal → Gathered tells past ops [] old wal
-gathered-all tells past ops rest old wal is g = subst (λ (l : List Op). Gathered tells past ops l old wal) is g
+pub gathered-all : {D : Type 0} (facts : DiskFacts D) (ops rest : List Op) (old wal : Wal D)
+    → rest ≡ [] → Gathered facts ops rest old wal → Gathered facts ops [] old wal
+gathered-all facts ops rest old wal is g = subst (λ (l : List Op). Gathered facts ops l old wal) is g
 
-pub waits-all : {D : Type 0} (tells : D → Bool) (past : D → List Disk) (ops : List Op) (old wal : Wal D)
-    → Gathered tells past ops [] old wal → wal.waiting.items ≡ old.waiting.items ++ op_records ops
-waits-all tells past ops old wal g = sym (append-nil wal.waiting.items) ∙ g.waiting
+pub waits-all : {D : Type 0} (facts : DiskFacts D) (ops : List Op) (old wal : Wal D)
+    → Gathered facts ops [] old wal → wal.waiting.items ≡ old.waiting.items ++ op_records ops
+waits-all facts ops old wal g = sym (append-nil wal.waiting.items) ∙ g.waiting

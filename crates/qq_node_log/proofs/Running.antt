@@ -1,7 +1,8 @@
 -- Parts are those of the lot's queues: what is said of some is said of others that are equal there.
-use Rattle.std.proofs.Common.{◌≡◌, ℕ, Bool, List, sym, ap, subst, ◌∙◌}
+use Rattle.std.proofs.Common.{◌≡◌, ℕ, List, sym, ap, subst, ◌∙◌}
 use Rattle.std.specs.List.{AllByRecursion}
 use Rattle.qq_disk.specs.Disk.{Disk}
+use Rattle.qq_disk.specs.Facts.{DiskFacts}
 use Rattle.qq_disk.specs.Moments.{Adds}
 use Rattle.qq_disk.proofs.Moments.{adds-weaker}
 use Rattle.qq_lots.specs.Kept.{IsPromised, KeepsPromised}
@@ -13,10 +14,10 @@ use Rattle.qq_node_log.specs.declared.node_log.NodeLog.TheVariants.{Open, Closed
 use Rattle.qq_node_log.specs.Ends.{IsCarryOf, ends}
 use Rattle.qq_node_log.specs.Log.{IsRunningIn}
 
-pub running-same : {D : Type 0} (tells : D → Bool) (past : D → List Disk) (lot : Lot) (parts later : Parts)
-    (log : NodeLog D) → AllByRecursion (λ (place : ℕ). (later place).ops ≡ (parts place).ops) lot.places
-    → IsRunningIn tells past lot parts log → IsRunningIn tells past lot later log
-running-same tells past lot parts later (Open wal) same run = record {
+pub running-same : {D : Type 0} (facts : DiskFacts D) (lot : Lot) (parts later : Parts) (log : NodeLog D)
+    → AllByRecursion (λ (place : ℕ). (later place).ops ≡ (parts place).ops) lot.places
+    → IsRunningIn facts lot parts log → IsRunningIn facts lot later log
+running-same facts lot parts later (Open wal) same run = record {
   sound = run.sound;
   queues_are = run.queues_are;
   waiting = run.waiting;
@@ -27,7 +28,7 @@ running-same tells past lot parts later (Open wal) same run = record {
       (λ (place : ℕ). IsCarryOf (lot.id place) (carries_ahead wal) (later place).ops)
       (λ place is own. ap ends is ∙ own) lot.places same run.carries;
 }
-running-same tells past lot parts later (Closed disk) same run = absurd run
+running-same facts lot parts later (Closed disk) same run = absurd run
 
 pub promised-same : (lot : Lot) (parts later : Parts) (d : Disk)
     → AllByRecursion (λ (place : ℕ). later place ≡ parts place) lot.places → KeepsPromised lot parts d

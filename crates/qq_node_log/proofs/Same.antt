@@ -1,9 +1,10 @@
 -- What each call leaves of the log, call after call.
-use Rattle.std.proofs.Common.{◌≡◌, ◌≤◌, ◌++◌, ℕ, Bool, List, [], refl, sym, ap, ◌∙◌, subst, arith, append_assoc}
+use Rattle.std.proofs.Common.{◌≡◌, ◌≤◌, ◌++◌, List, [], refl, sym, ap, ◌∙◌, subst, arith, append_assoc}
 use Rattle.std.specs.Global.{Vec}
 use Rattle.std.specs.Prelude.{IsTrue}
 use Rattle.qq_base.specs.declared.ids.QueueId.{QueueId}
 use Rattle.qq_disk.specs.Disk.{Disk}
+use Rattle.qq_disk.specs.Facts.{DiskFacts}
 use Rattle.qq_disk.specs.declared.name.FileName.{FileName}
 use Rattle.qq_disk.proofs.Stored.{still_tells}
 use Rattle.qq_wal.specs.declared.wal.Wal.{Wal}
@@ -38,13 +39,12 @@ pub kept-newest : {D : Type 0} (old new : Wal D) → new ≡ record old { disk =
 kept-newest {D} old new same newest = subst (λ (w : Wal D). IsInNewest w) (sym same) newest
 
 -- a log's disk is later
-pub same-later : {D : Type 0} (tells : D → Bool) (past : D → List Disk) (faults : D → ℕ) (old new : Wal D)
-    → SameLog tells past faults old new → IsLater tells past old.disk new.disk
-same-later tells past faults old new same = record { told = same.told; grown = same.grown }
+pub same-later : {D : Type 0} (facts : DiskFacts D) (old new : Wal D)
+    → SameLog facts old new → IsLater facts old.disk new.disk
+same-later facts old new same = record { told = same.told; grown = same.grown }
 
-pub same-none : {D : Type 0} (tells : D → Bool) (past : D → List Disk) (faults : D → ℕ) (wal : Wal D)
-    → IsSound tells past wal → SameLog tells past faults wal wal
-same-none tells past faults wal sound = record {
+pub same-none : {D : Type 0} (facts : DiskFacts D) (wal : Wal D) → IsSound facts wal → SameLog facts wal wal
+same-none facts wal sound = record {
   sound = sound;
   queues = refl;
   ahead = refl;
@@ -55,36 +55,36 @@ same-none tells past faults wal sound = record {
   newest = λ newest. newest;
 }
 
-pub same-then : {D : Type 0} (tells : D → Bool) (past : D → List Disk) (faults : D → ℕ) (old mid new : Wal D)
-    → SameLog tells past faults old mid → SameLog tells past faults mid new → SameLog tells past faults old new
-same-then tells past faults old mid new first second = record {
+pub same-then : {D : Type 0} (facts : DiskFacts D) (old mid new : Wal D)
+    → SameLog facts old mid → SameLog facts mid new → SameLog facts old new
+same-then facts old mid new first second = record {
   sound = second.sound;
   queues = second.queues ∙ first.queues;
   ahead = second.ahead ∙ first.ahead;
   told = second.told ∙ first.told;
   later = omega (arith, first.later, second.later);
-  whole = λ tell whole. subst (λ (ids : List QueueId). StillWhole tells past ids mid.disk new.disk)
+  whole = λ tell whole. subst (λ (ids : List QueueId). StillWhole facts ids mid.disk new.disk)
       (ap (λ (q : Vec QueueId). q.items) first.queues) second.whole (still_tells first.told tell)
       (first.whole tell whole);
-  grown = λ tell. grown-then (past old.disk) (past mid.disk) (past new.disk) (first.grown tell)
+  grown = λ tell. grown-then (facts.past old.disk) (facts.past mid.disk) (facts.past new.disk) (first.grown tell)
       (second.grown (still_tells first.told tell));
   newest = λ newest. second.newest (first.newest newest);
 }
 
 -- the disk, where it may be recovered as before
-pub disk-same : {D : Type 0} (tells : D → Bool) (past : D → List Disk) (faults : D → ℕ) (queues : List QueueId)
-    (old new : D) → tells new ≡ tells old → faults old ≤ faults new → StillWhole tells past queues old new
-    → SameDisk tells past faults queues old new
-disk-same tells past faults queues old new told later still = record {
+pub disk-same : {D : Type 0} (facts : DiskFacts D) (queues : List QueueId) (old new : D) → facts.tells new
+    ≡ facts.tells old → facts.faults old ≤ facts.faults new → StillWhole facts queues old new
+    → SameDisk facts queues old new
+disk-same facts queues old new told later still = record {
   told = told;
   later = later;
-  whole = λ is tell. (let before : IsTrue (tells old) = subst IsTrue told tell in still before (is before));
+  whole = λ is tell. (let before : IsTrue (facts.tells old) = subst IsTrue told tell in still before (is before));
 }
 
 -- so that of the log is the same
-pub same-disk : {D : Type 0} (tells : D → Bool) (past : D → List Disk) (faults : D → ℕ) (queues : List QueueId)
-    (old new : Wal D) → SameLog tells past faults old new → old.queues.items ≡ queues
-    → SameDisk tells past faults queues old.disk new.disk
-same-disk tells past faults queues old new same are =
-    disk-same tells past faults queues old.disk new.disk same.told same.later
-    (subst (λ (ids : List QueueId). StillWhole tells past ids old.disk new.disk) are same.whole)
+pub same-disk : {D : Type 0} (facts : DiskFacts D) (queues : List QueueId) (old new : Wal D) → SameLog facts old new
+    → old.queues.items ≡ queues
+    → SameDisk facts queues old.disk new.disk
+same-disk facts queues old new same are =
+    disk-same facts queues old.disk new.disk same.told same.later
+    (subst (λ (ids : List QueueId). StillWhole facts ids old.disk new.disk) are same.whole)

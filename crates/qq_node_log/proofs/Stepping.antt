@@ -1,9 +1,10 @@
 -- A sync, and then a new file.
-use Rattle.std.proofs.Common.{◌≡◌, ℕ, Bool, List, sym, ap, ◌∙◌, subst}
+use Rattle.std.proofs.Common.{◌≡◌, Bool, List, sym, ap, ◌∙◌, subst}
 use Rattle.std.specs.Global.{Vec}
 use Rattle.std.specs.Prelude.{IsTrue}
 use Rattle.qq_base.specs.declared.ids.QueueId.{QueueId}
 use Rattle.qq_disk.specs.Disk.{Disk, now}
+use Rattle.qq_disk.specs.Facts.{DiskFacts}
 use Rattle.qq_disk.specs.Moments.{Adds}
 use Rattle.qq_disk.proofs.Moments.{adds-now, adds-then}
 use Rattle.qq_lots.specs.Kept.{IsTied}
@@ -74,22 +75,23 @@ comes-nothing queues old new stays lot parts same tied =
 
 -- ---- what it leaves of the parts
 
-module _ {D : Type 0} (tells : D → Bool) (past : D → List Disk) (faults : D → ℕ) (old new : Wal D)
-    (same : SameLog tells past faults old new) where
-  pub sync-keeps : (IsTrue (tells old.disk) → Stays old.queues.items (past old.disk) (past new.disk))
-      → CallKeeps tells past (λ (lot : Lot) (parts : Parts). parts) (Open old) (Open new)
+module _ {D : Type 0} (facts : DiskFacts D) (old new : Wal D) (same : SameLog facts old new) where
+  pub sync-keeps : (IsTrue (facts.tells old.disk) → Stays old.queues.items (facts.past old.disk) (facts.past new.disk))
+      → CallKeeps facts (λ (lot : Lot) (parts : Parts). parts) (Open old) (Open new)
   sync-keeps stays lot parts run tell tied =
-      stays-keeps lot parts (past old.disk) (past new.disk) (tied-promised lot parts (now (past old.disk)) tied)
-      (subst (λ (ids : List QueueId). Stays ids (past old.disk) (past new.disk)) run.queues_are (stays tell))
+      stays-keeps lot parts (facts.past old.disk) (facts.past new.disk)
+      (tied-promised lot parts (now (facts.past old.disk)) tied)
+      (subst (λ (ids : List QueueId). Stays ids (facts.past old.disk) (facts.past new.disk))
+      run.queues_are (stays tell))
 
   pub sync-comes : (outcome : SyncOutcome)
-      → (IsTrue (tells old.disk) → Comes outcome old.queues.items (past old.disk) (past new.disk))
-      → SyncsIn tells past outcome (Open old) (Open new)
+      → (IsTrue (facts.tells old.disk) → Comes outcome old.queues.items (facts.past old.disk) (facts.past new.disk))
+      → SyncsIn facts outcome (Open old) (Open new)
   sync-comes outcome comes lot parts run tell tied = comes tell lot parts run.queues_are tied
 
   pub sync-runs : (full : Bool) → GoesOnAs full old new
-      → (IsTrue (tells old.disk) → Comes Whole old.queues.items (past old.disk) (past new.disk))
-      → RunsOn tells past (λ (lot : Lot). keep_all) (Open old) (Open new)
+      → (IsTrue (facts.tells old.disk) → Comes Whole old.queues.items (facts.past old.disk) (facts.past new.disk))
+      → RunsOn facts (λ (lot : Lot). keep_all) (Open old) (Open new)
   sync-runs full goes comes = record {
     running = λ lot parts run. record {
       sound = same.sound;

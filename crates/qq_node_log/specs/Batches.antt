@@ -5,6 +5,7 @@ use Rattle.qq_base.specs.declared.ids.QueueId.{QueueId}
 use Rattle.qq_base.specs.declared.memory.Memory.{Memory}
 use Rattle.qq_base.specs.declared.memory.Memory.TheVariants.{Want, Spent}
 use Rattle.qq_disk.specs.Disk.{Disk, content, now}
+use Rattle.qq_disk.specs.Facts.{DiskFacts}
 use Rattle.qq_disk.specs.Image.{log_of}
 use Rattle.qq_disk.specs.Moments.{Adds}
 use Rattle.qq_log.specs.declared.op.Op.{Op}
@@ -33,13 +34,13 @@ abbrev pub IsBatchOf : Bool → List LogRecord → ℕ → Type 0
 IsBatchOf true waiting count = length (drop count waiting) < length waiting
 IsBatchOf false waiting count = waiting ≡ []
 
-pub record AppendsSome {D : Type 0} (tells : D → Bool) (past : D → List Disk) (more : Bool) (old new : Wal D) : Type 0
+pub record AppendsSome {D : Type 0} (facts : DiskFacts D) (more : Bool) (old new : Wal D) : Type 0
   where
     pub count : ℕ
     pub batch : IsBatchOf more old.waiting.items count
     pub waiting : new.waiting.items ≡ drop count old.waiting.items
-    pub appended : IsTrue (tells old.disk)
-        → AppendsFirst old.queues.items count old.waiting.items (past old.disk) (past new.disk)
+    pub appended : IsTrue (facts.tells old.disk)
+        → AppendsFirst old.queues.items count old.waiting.items (facts.past old.disk) (facts.past new.disk)
     pub going : new.stopped ≡ false
 
 -- ---- all of them
@@ -64,11 +65,11 @@ abbrev pub HoldsWritten : List QueueId → List LogRecord → List Disk → List
 HoldsWritten queues waiting old new = (ops : List Op) → op_records ops ≡ waiting → HoldsGiven queues ops old new
 
 -- all that waited is appended, and the log goes on
-pub record HasWritten {D : Type 0} (tells : D → Bool) (past : D → List Disk) (old new : Wal D) : Type 0 where
+pub record HasWritten {D : Type 0} (facts : DiskFacts D) (old new : Wal D) : Type 0 where
   pub waiting : new.waiting.items ≡ []
   pub going : new.stopped ≡ false
-  pub holds : IsTrue (tells old.disk)
-      → HoldsWritten old.queues.items old.waiting.items (past old.disk) (past new.disk)
+  pub holds : IsTrue (facts.tells old.disk)
+      → HoldsWritten old.queues.items old.waiting.items (facts.past old.disk) (facts.past new.disk)
 
 -- ---- why it gave up
 

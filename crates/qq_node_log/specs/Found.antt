@@ -1,10 +1,11 @@
 -- What recovery finds of a node's queues, and the log that goes on after it.
-use Rattle.std.specs.Prelude.{◌≡◌, ◌≢◌, ℕ, Bool, List, [], ◌∷◌, Option, Some, None, Result, Ok, Err, IfSome, IsTrue, take}
+use Rattle.std.specs.Prelude.{◌≡◌, ◌≢◌, ℕ, List, [], ◌∷◌, Option, Some, None, Result, Ok, Err, IfSome, IsTrue, take}
 use Rattle.std.specs.List.{AllByRecursion, AllZip}
 use Rattle.qq_base.specs.declared.ids.QueueId.{QueueId}
 use Rattle.qq_disk.specs.declared.image.Image.{Image}
 use Rattle.qq_disk.specs.declared.name.FileName.{FileName}
 use Rattle.qq_disk.specs.Disk.{Disk, now}
+use Rattle.qq_disk.specs.Facts.{DiskFacts}
 use Rattle.qq_disk.specs.Image.{IsNewestLog, image_of}
 use Rattle.qq_disk.specs.Moments.{Adds}
 use Rattle.qq_log.specs.declared.lane.Lane.{Lane}
@@ -63,18 +64,19 @@ pub record Settles (lot : Lot) (parts : Parts) (lanes : Lanes) (old new : List D
 
 -- What is found: a lane for each queue, within its ends, and the log that goes on with them. It is what a disk that tells
 -- its contents shows.
-pub record HasFound {D : Type 0} (tells : D → Bool) (past : D → List Disk) (queues : List QueueId) (log_bytes : ℕ)
-    (disk : D) (f : Found D) : Type 0 where
+pub record HasFound {D : Type 0} (facts : DiskFacts D) (queues : List QueueId) (log_bytes : ℕ) (disk : D)
+    (f : Found D) : Type 0 where
   pub lanes : Lanes
   pub each : AreLanes queues lanes f.lanes.items
   pub within : AllByRecursion (λ (lane : Option Lane). IfSome lane IsWithinEnds) f.lanes.items
   pub limit : f.wal.log_bytes ≡ log_bytes
   pub goes_on : (lot : Lot) (parts : Parts) → queues ≡ ids_of lot → AllEnd lot parts lanes
-      → IsRunning tells past lot (find_each (ops_found lot lanes) parts) f.wal
-  pub read : IsTrue (tells disk) → lanes_read queues (shown (now (past disk))) ≡ Ok lanes
-  pub settles : IsTrue (tells disk) → (lot : Lot) (parts : Parts) → queues ≡ ids_of lot
-      → KeepsPromised lot parts (now (past disk)) → Settles lot parts lanes (past disk) (past f.wal.disk)
-  pub new : IsTrue (tells disk) → IsNew (past disk) → (id : ℕ) → lanes id ≡ None
+      → IsRunning facts lot (find_each (ops_found lot lanes) parts) f.wal
+  pub read : IsTrue (facts.tells disk) → lanes_read queues (shown (now (facts.past disk))) ≡ Ok lanes
+  pub settles : IsTrue (facts.tells disk) → (lot : Lot) (parts : Parts) → queues ≡ ids_of lot
+      → KeepsPromised lot parts (now (facts.past disk)) → Settles lot parts lanes
+      (facts.past disk) (facts.past f.wal.disk)
+  pub new : IsTrue (facts.tells disk) → IsNew (facts.past disk) → (id : ℕ) → lanes id ≡ None
 
 -- it failed: the files of a disk that kept a promise weren't refused, and it keeps the promise
 abbrev pub FailsKeeping : List QueueId → List Disk → List Disk → RecoverFault → Type 0

@@ -6,6 +6,7 @@ use Rattle.qq_base.specs.declared.memory.Memory.{Memory}
 use Rattle.qq_base.specs.declared.memory.Memory.TheVariants.{Want, Spent}
 use Rattle.qq_base.specs.declared.memory.TheConstants.{NUMBER_END}
 use Rattle.qq_disk.specs.Disk.{Disk, IsListed, contents, now}
+use Rattle.qq_disk.specs.Facts.{DiskFacts}
 use Rattle.qq_disk.specs.Image.{log_of}
 use Rattle.qq_disk.specs.Moments.{Adds}
 use Rattle.qq_lots.specs.Kept.{IsTied, KeepsPromised}
@@ -40,11 +41,11 @@ Comes outcome queues old new =
     (lot : Lot) (parts : Parts) → queues ≡ ids_of lot → IsTied lot parts (now old) → HasCome outcome lot parts old new
 
 -- of whatever parts the log went on
-abbrev pub SyncsIn : {D : Type 0} → (D → Bool) → (D → List Disk) → SyncOutcome → NodeLog D → NodeLog D → Type 0
-SyncsIn tells past outcome old new =
-    (lot : Lot) (parts : Parts) → IsRunningIn tells past lot parts old → IsTrue (tells (disk_in old))
-    → IsTied lot parts (now (past (disk_in old)))
-    → HasCome outcome lot parts (past (disk_in old)) (past (disk_in new))
+abbrev pub SyncsIn : {D : Type 0} → DiskFacts D → SyncOutcome → NodeLog D → NodeLog D → Type 0
+SyncsIn facts outcome old new =
+    (lot : Lot) (parts : Parts) → IsRunningIn facts lot parts old → IsTrue (facts.tells (disk_in old))
+    → IsTied lot parts (now (facts.past (disk_in old)))
+    → HasCome outcome lot parts (facts.past (disk_in old)) (facts.past (disk_in new))
 
 -- it failed only where the disk's count rose
 abbrev pub FailsByCount : ℕ → ℕ → SyncOutcome → Type 0

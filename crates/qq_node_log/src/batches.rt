@@ -13,13 +13,13 @@ use std::alloc::Global;
 
 /// Appends a batch of what was gathered, and answers whether anything waited.
 fn append_some<D: NodeDisk>(wal: &mut Wal<D>, alloc: Global) -> Result<bool, WalFault>
-    requires sound { IsSound D.tells D.past wal.old }
+    requires sound { IsSound D.facts wal.old }
     requires going { wal.old.stopped ≡ false }
-    ensures same { SameLog D.tells D.past D.faults wal.old wal.new }
-    ensures ok { IfOk result (λ more. AppendsSome D.tells D.past more wal.old wal.new) }
-    ensures stays { IsTrue (D.tells wal.old.disk) → StaysAppending wal.old.queues.items
-        wal.old.waiting.items (D.past wal.old.disk) (D.past wal.new.disk) }
-    ensures cause { IfErr result (IsWriteCaused D.faults wal.old wal.new) }
+    ensures same { SameLog D.facts wal.old wal.new }
+    ensures ok { IfOk result (λ more. AppendsSome D.facts more wal.old wal.new) }
+    ensures stays { IsTrue (D.facts.tells wal.old.disk) → StaysAppending wal.old.queues.items
+        wal.old.waiting.items (D.facts.past wal.old.disk) (D.facts.past wal.new.disk) }
+    ensures cause { IfErr result (IsWriteCaused D.facts.faults wal.old wal.new) }
 {
     encodings_have_lengths();
     match wal.append_batch(alloc) {
@@ -30,13 +30,13 @@ fn append_some<D: NodeDisk>(wal: &mut Wal<D>, alloc: Global) -> Result<bool, Wal
 
 /// Appends all that was gathered.
 fn append_all<D: NodeDisk>(wal: &mut Wal<D>, alloc: Global) -> Result<(), WalFault>
-    requires sound { IsSound D.tells D.past wal.old }
+    requires sound { IsSound D.facts wal.old }
     requires going { wal.old.stopped ≡ false }
-    ensures same { SameLog D.tells D.past D.faults wal.old wal.new }
-    ensures ok { OnOk result (HasWritten D.tells D.past wal.old wal.new) }
-    ensures stays { IsTrue (D.tells wal.old.disk) → StaysWriting wal.old.queues.items
-        wal.old.waiting.items (D.past wal.old.disk) (D.past wal.new.disk) }
-    ensures cause { IfErr result (IsWriteCaused D.faults wal.old wal.new) }
+    ensures same { SameLog D.facts wal.old wal.new }
+    ensures ok { OnOk result (HasWritten D.facts wal.old wal.new) }
+    ensures stays { IsTrue (D.facts.tells wal.old.disk) → StaysWriting wal.old.queues.items
+        wal.old.waiting.items (D.facts.past wal.old.disk) (D.facts.past wal.new.disk) }
+    ensures cause { IfErr result (IsWriteCaused D.facts.faults wal.old wal.new) }
 {
     'batches: while append_some(wal, alloc)? {}
     Ok(())
@@ -50,14 +50,14 @@ fn append_all<D: NodeDisk>(wal: &mut Wal<D>, alloc: Global) -> Result<(), WalFau
 /// - `cause`: `Spent` comes only where a batch more could make the file longer than 2^64 - 1 bytes. After an
 ///   error no call of the disk has failed.
 pub(crate) fn write_log<D: NodeDisk>(wal: &mut Wal<D>, alloc: Global) -> Result<bool, Memory>
-    requires sound { IsSound D.tells D.past wal.old }
+    requires sound { IsSound D.facts wal.old }
     requires going { wal.old.stopped ≡ false }
-    ensures same { SameLog D.tells D.past D.faults wal.old wal.new }
-    ensures ok { IfOk result (λ more. more ≡ true → HasWritten D.tells D.past wal.old wal.new) }
-    ensures stays { IsTrue (D.tells wal.old.disk) → StaysWriting wal.old.queues.items
-        wal.old.waiting.items (D.past wal.old.disk) (D.past wal.new.disk) }
+    ensures same { SameLog D.facts wal.old wal.new }
+    ensures ok { IfOk result (λ more. more ≡ true → HasWritten D.facts wal.old wal.new) }
+    ensures stays { IsTrue (D.facts.tells wal.old.disk) → StaysWriting wal.old.queues.items
+        wal.old.waiting.items (D.facts.past wal.old.disk) (D.facts.past wal.new.disk) }
     ensures failed { IfOk result (λ more. more ≡ false →
-        Rose (D.faults wal.old.disk) (D.faults wal.new.disk)) }
+        Rose (D.facts.faults wal.old.disk) (D.facts.faults wal.new.disk)) }
     ensures cause { IfErr result (IsLongGoing wal.new) }
 {
     match append_all(wal, alloc) {

@@ -25,12 +25,13 @@ pub fn crash_log<Y: Yard>(
     image: &Image,
 ) -> Result<NodeLog<Y::Disk>, YardFault>
     ensures closed { IfOk result (λ left. is_open left ≡ false) }
-    ensures left { IsTrue (Y.Disk.tells (disk_in log)) → IfOk result (λ left.
-        IsAfterCrash image.now (Y.Disk.past (disk_in log)) (Y.Disk.past (disk_in left))) }
+    ensures left { IsTrue (Y.Disk.facts.tells (disk_in log)) → IfOk result (λ left.
+        IsAfterCrash image.now (Y.Disk.facts.past (disk_in log))
+        (Y.Disk.facts.past (disk_in left))) }
     ensures told { IfOk result (λ left.
-        Y.Disk.tells (disk_in left) ≡ Y.Disk.tells (disk_in log)) }
+        Y.Disk.facts.tells (disk_in left) ≡ Y.Disk.facts.tells (disk_in log)) }
     ensures stands { IfOk result (λ left. (lot : Lot) (parts : Parts) →
-        Stands Y.Disk.tells Y.Disk.past lot parts false left) }
+        Stands Y.Disk.facts lot parts false left) }
     ensures cause { HasCause IsYardCaused (Y.faults yard.old) (Y.faults yard.new) result }
 {
     match yard.crash(alloc, log.into_disk(), image) {

@@ -14,11 +14,11 @@ use qq_wal::{Wal, WalFault};
 
 /// Gathers an op.
 fn gather_one<D: NodeDisk>(wal: &mut Wal<D>, op: Op) -> Result<(), Memory>
-    requires sound { IsSound D.tells D.past wal.old }
+    requires sound { IsSound D.facts wal.old }
     requires going { wal.old.stopped ≡ false }
     requires may { MayWrite op }
     requires goes_on { GoesOn wal.old.queues.items (carries_ahead wal.old) op }
-    ensures sound { IsSound D.tells D.past wal.new }
+    ensures sound { IsSound D.facts wal.new }
     ensures ok { OnOk result (
         wal.new.waiting.items ≡ wal.old.waiting.items ++ op_records (op ∷ [])) }
     ensures ahead { OnOk result (carries_ahead wal.new ≡ add_op (carries_ahead wal.old) op) }
@@ -38,11 +38,11 @@ fn gather_one<D: NodeDisk>(wal: &mut Wal<D>, op: Op) -> Result<(), Memory>
 /// else of the log is changed, and its disk isn't called. The only error is `Want`, out of memory: then the
 /// ops that weren't gathered are dropped.
 pub(crate) fn gather_all<D: NodeDisk>(wal: &mut Wal<D>, ops: Vec<Op>) -> Result<(), Memory>
-    requires sound { IsSound D.tells D.past wal.old }
+    requires sound { IsSound D.facts wal.old }
     requires going { wal.old.stopped ≡ false }
     requires may { All MayWrite ops.items }
     requires goes_on { AllGoOn wal.old.queues.items (carries_ahead wal.old) ops.items }
-    ensures sound { IsSound D.tells D.past wal.new }
+    ensures sound { IsSound D.facts wal.new }
     ensures ok { OnOk result (
         wal.new.waiting.items ≡ wal.old.waiting.items ++ op_records ops.items) }
     ensures ahead { OnOk result (

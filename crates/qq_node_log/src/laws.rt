@@ -30,7 +30,7 @@ use qq_wal_chain::a_crash_without_junk_keeps_the_promise;
 pub fn the_log_goes_on_where_its_ops_end<D: NodeDisk>()
     ensures same { (lot : Lot) (parts later : Parts) (log : LogOf D) →
         AllByRecursion (λ (place : ℕ). (later place).ops ≡ (parts place).ops) lot.places →
-        IsRunningIn D.tells D.past lot parts log → IsRunningIn D.tells D.past lot later log }
+        IsRunningIn D.facts lot parts log → IsRunningIn D.facts lot later log }
     ensures between { (lot : Lot) (parts : Parts) (lanes : Lanes) → AllBetween lot parts lanes →
         AllEnd lot parts lanes }
     ensures lane { (id : QueueId) (lanes : Lanes) (lane : Option Lane) →
@@ -53,7 +53,7 @@ pub fn parts_are_compared_at_their_places()
 /// A law: a disk on which nothing ever was may be recovered, and has promised nothing.
 pub fn a_new_disk_holds_nothing<D: NodeDisk>()
     ensures whole { (queues : List QueueId) (disk : D) →
-        (IsTrue (D.tells disk) → IsNew (D.past disk)) → IsWhole D.tells D.past queues disk }
+        (IsTrue (D.facts.tells disk) → IsNew (D.facts.past disk)) → IsWhole D.facts queues disk }
     ensures promised { (lot : Lot) (past : List Disk) → IsNew past →
         KeepsPromised lot (λ place. new_part) (now past) }
 {}

@@ -35,20 +35,19 @@ pub enum NodeLog<D: NodeDisk> {
 }
 
 fn append_open<D: NodeDisk>(wal: &mut Wal<D>, alloc: Global, ops: Vec<Op>) -> Result<bool, Memory>
-    requires { MayAppend D.tells D.past ops.items (NodeLog.Open wal.old) }
-    ensures same { KeepsDisk D.tells D.past D.faults (NodeLog.Open wal.old)
-        (NodeLog.Open wal.new) }
+    requires { MayAppend D.facts ops.items (NodeLog.Open wal.old) }
+    ensures same { KeepsDisk D.facts (NodeLog.Open wal.old) (NodeLog.Open wal.new) }
     ensures ok { IfOk result (λ more. more ≡ true →
-        RunsOn D.tells D.past (λ (lot : Lot). give_batch lot ops.items)
-        (NodeLog.Open wal.old) (NodeLog.Open wal.new)) }
-    ensures moments { CallKeeps D.tells D.past (λ (lot : Lot). give_batch lot ops.items)
+        RunsOn D.facts (λ (lot : Lot). give_batch lot ops.items) (NodeLog.Open wal.old)
+        (NodeLog.Open wal.new)) }
+    ensures moments { CallKeeps D.facts (λ (lot : Lot). give_batch lot ops.items)
         (NodeLog.Open wal.old) (NodeLog.Open wal.new) }
     ensures failed { IfOk result (λ more. more ≡ false →
-        Rose (D.faults wal.old.disk) (D.faults wal.new.disk)) }
+        Rose (D.facts.faults wal.old.disk) (D.facts.faults wal.new.disk)) }
     ensures spent { IfErr result (IsLong wal.new) }
-    ensures later { IsLater D.tells D.past wal.old.disk wal.new.disk }
-    ensures shown { IsTrue (D.tells wal.old.disk) → IfErr result (λ memory.
-        IsLongOn memory (now (D.past wal.new.disk))) }
+    ensures later { IsLater D.facts wal.old.disk wal.new.disk }
+    ensures shown { IsTrue (D.facts.tells wal.old.disk) → IfErr result (λ memory.
+        IsLongOn memory (now (D.facts.past wal.new.disk))) }
 {
     if let Err(memory) = gather_all(wal, ops) {
         return Err(memory);
@@ -60,23 +59,21 @@ fn append_open<D: NodeDisk>(wal: &mut Wal<D>, alloc: Global, ops: Vec<Op>) -> Re
 }
 
 fn sync_open<D: NodeDisk>(wal: &mut Wal<D>, alloc: Global) -> Result<SyncOutcome, Memory>
-    requires { MaySync D.tells D.past (NodeLog.Open wal.old) }
-    ensures same { KeepsDisk D.tells D.past D.faults (NodeLog.Open wal.old)
-        (NodeLog.Open wal.new) }
+    requires { MaySync D.facts (NodeLog.Open wal.old) }
+    ensures same { KeepsDisk D.facts (NodeLog.Open wal.old) (NodeLog.Open wal.new) }
     ensures ok { IfOk result (λ outcome. outcome ≡ Whole →
-        RunsOn D.tells D.past (λ (lot : Lot). keep_all)
-        (NodeLog.Open wal.old) (NodeLog.Open wal.new)) }
+        RunsOn D.facts (λ (lot : Lot). keep_all) (NodeLog.Open wal.old) (NodeLog.Open wal.new)) }
     ensures leaves { IfOk result (λ outcome. Leaves outcome wal.old wal.new) }
-    ensures come { IfOk result (λ outcome. SyncsIn D.tells D.past outcome
-        (NodeLog.Open wal.old) (NodeLog.Open wal.new)) }
-    ensures moments { CallKeeps D.tells D.past (λ (lot : Lot) (parts : Parts). parts)
+    ensures come { IfOk result (λ outcome. SyncsIn D.facts outcome (NodeLog.Open wal.old)
+        (NodeLog.Open wal.new)) }
+    ensures moments { CallKeeps D.facts (λ (lot : Lot) (parts : Parts). parts)
         (NodeLog.Open wal.old) (NodeLog.Open wal.new) }
     ensures failed { IfOk result
-        (FailsByCount (D.faults wal.old.disk) (D.faults wal.new.disk)) }
+        (FailsByCount (D.facts.faults wal.old.disk) (D.facts.faults wal.new.disk)) }
     ensures spent { IfErr result (IsLast wal.new) }
-    ensures later { IsLater D.tells D.past wal.old.disk wal.new.disk }
-    ensures shown { IsTrue (D.tells wal.old.disk) → IfErr result (λ memory.
-        IsLastOn memory (now (D.past wal.new.disk))) }
+    ensures later { IsLater D.facts wal.old.disk wal.new.disk }
+    ensures shown { IsTrue (D.facts.tells wal.old.disk) → IfErr result (λ memory.
+        IsLastOn memory (now (D.facts.past wal.new.disk))) }
 {
     match sync_log(wal, alloc) {
         Ok(outcome) => Ok(outcome),
@@ -115,18 +112,18 @@ impl<D: NodeDisk> NodeLog<D> {
     /// - `spent`, `shown`: there was no memory, or one batch more could make the log's file longer than 2^64 - 1
     ///   bytes. A disk that tells its contents has a log file of so many bytes.
     pub fn append(&mut self, alloc: Global, ops: Vec<Op>) -> Result<bool, Memory>
-        requires { MayAppend D.tells D.past ops.items self.old }
-        ensures same { KeepsDisk D.tells D.past D.faults self.old self.new }
+        requires { MayAppend D.facts ops.items self.old }
+        ensures same { KeepsDisk D.facts self.old self.new }
         ensures ok { IfOk result (λ more. more ≡ true →
-            RunsOn D.tells D.past (λ (lot : Lot). give_batch lot ops.items) self.old self.new) }
-        ensures moments { CallKeeps D.tells D.past (λ (lot : Lot). give_batch lot ops.items)
+            RunsOn D.facts (λ (lot : Lot). give_batch lot ops.items) self.old self.new) }
+        ensures moments { CallKeeps D.facts (λ (lot : Lot). give_batch lot ops.items)
             self.old self.new }
         ensures failed { IfOk result (λ more. more ≡ false →
-            Rose (D.faults (disk_in self.old)) (D.faults (disk_in self.new))) }
+            Rose (D.facts.faults (disk_in self.old)) (D.facts.faults (disk_in self.new))) }
         ensures spent { IfErr result (IsLongIn self.new) }
-        ensures later { IsLater D.tells D.past (disk_in self.old) (disk_in self.new) }
-        ensures shown { IsTrue (D.tells (disk_in self.old)) → IfErr result (λ memory.
-            IsLongOn memory (now (D.past (disk_in self.new)))) }
+        ensures later { IsLater D.facts (disk_in self.old) (disk_in self.new) }
+        ensures shown { IsTrue (D.facts.tells (disk_in self.old)) → IfErr result (λ memory.
+            IsLongOn memory (now (D.facts.past (disk_in self.new)))) }
     {
         match self {
             NodeLog::Open(wal) => append_open(wal, alloc, ops),
@@ -146,20 +143,20 @@ impl<D: NodeDisk> NodeLog<D> {
     /// - `spent`, `shown`: there was no memory, or the greatest number of a log file is at its end. On a disk that
     ///   tells its contents it is that of a log file, and none has a greater one.
     pub fn sync(&mut self, alloc: Global) -> Result<SyncOutcome, Memory>
-        requires { MaySync D.tells D.past self.old }
-        ensures same { KeepsDisk D.tells D.past D.faults self.old self.new }
+        requires { MaySync D.facts self.old }
+        ensures same { KeepsDisk D.facts self.old self.new }
         ensures ok { IfOk result (λ outcome. outcome ≡ Whole →
-            RunsOn D.tells D.past (λ (lot : Lot). keep_all) self.old self.new) }
+            RunsOn D.facts (λ (lot : Lot). keep_all) self.old self.new) }
         ensures leaves { IfOk result (λ outcome. LeavesIn outcome self.old self.new) }
-        ensures come { IfOk result (λ outcome. SyncsIn D.tells D.past outcome self.old self.new) }
-        ensures moments { CallKeeps D.tells D.past (λ (lot : Lot) (parts : Parts). parts)
+        ensures come { IfOk result (λ outcome. SyncsIn D.facts outcome self.old self.new) }
+        ensures moments { CallKeeps D.facts (λ (lot : Lot) (parts : Parts). parts)
             self.old self.new }
-        ensures failed { IfOk result (FailsByCount (D.faults (disk_in self.old))
-            (D.faults (disk_in self.new))) }
+        ensures failed { IfOk result (FailsByCount (D.facts.faults (disk_in self.old))
+            (D.facts.faults (disk_in self.new))) }
         ensures spent { IfErr result (IsLastIn self.new) }
-        ensures later { IsLater D.tells D.past (disk_in self.old) (disk_in self.new) }
-        ensures shown { IsTrue (D.tells (disk_in self.old)) → IfErr result (λ memory.
-            IsLastOn memory (now (D.past (disk_in self.new)))) }
+        ensures later { IsLater D.facts (disk_in self.old) (disk_in self.new) }
+        ensures shown { IsTrue (D.facts.tells (disk_in self.old)) → IfErr result (λ memory.
+            IsLastOn memory (now (D.facts.past (disk_in self.new)))) }
     {
         match self {
             NodeLog::Open(wal) => sync_open(wal, alloc),

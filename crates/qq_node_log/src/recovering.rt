@@ -69,17 +69,18 @@ pub fn recover_log<D: NodeDisk>(
     queues: &[QueueId],
     log_bytes: u64,
 ) -> Result<Found<D>, (RecoverFault, D)>
-    requires whole { IsWhole D.tells D.past queues.now disk }
+    requires whole { IsWhole D.facts queues.now disk }
     requires apart { AreDistinct queues.now }
-    ensures same { SameDisk D.tells D.past D.faults queues.now disk (disk_of result) }
-    ensures ok { IfOk result (HasFound D.tells D.past queues.now log_bytes disk) }
-    ensures fails { IsTrue (D.tells disk) → IfErr result (λ e.
-        FailsKeeping queues.now (D.past disk) (D.past e.1) e.0) }
-    ensures refused { IsTrue (D.tells disk) → IfErr result (λ e.
-        Fails e.0 (lanes_read queues.now (shown (now (D.past disk))))) }
-    ensures spent { IsTrue (D.tells disk) →
-        IfErr result (λ e. IsSpentOn (now (D.past disk)) e.0) }
-    ensures cause { IfErr result (λ e. IsRecoverCaused (D.faults disk) (D.faults e.1) e.0) }
+    ensures same { SameDisk D.facts queues.now disk (disk_of result) }
+    ensures ok { IfOk result (HasFound D.facts queues.now log_bytes disk) }
+    ensures fails { IsTrue (D.facts.tells disk) → IfErr result (λ e.
+        FailsKeeping queues.now (D.facts.past disk) (D.facts.past e.1) e.0) }
+    ensures refused { IsTrue (D.facts.tells disk) → IfErr result (λ e.
+        Fails e.0 (lanes_read queues.now (shown (now (D.facts.past disk))))) }
+    ensures spent { IsTrue (D.facts.tells disk) →
+        IfErr result (λ e. IsSpentOn (now (D.facts.past disk)) e.0) }
+    ensures cause { IfErr result (λ e. IsRecoverCaused (D.facts.faults disk)
+        (D.facts.faults e.1) e.0) }
 {
     let mut recovered = match recover(disk, alloc, queues, log_bytes) {
         Ok(recovered) => recovered,

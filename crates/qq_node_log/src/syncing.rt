@@ -27,20 +27,21 @@ pub enum SyncOutcome {
 /// the disk failed, which it counts. Nothing that was appended may wait for a sync. `Spent` comes only where
 /// the greatest number of a log file is at its end.
 fn begin_next<D: NodeDisk>(wal: &mut Wal<D>, alloc: Global, full: bool) -> Result<bool, Memory>
-    requires sound { IsSound D.tells D.past wal.old }
+    requires sound { IsSound D.facts wal.old }
     requires synced { wal.old.dirty ≡ false }
     requires going { wal.old.stopped ≡ false }
-    ensures same { SameLog D.tells D.past D.faults wal.old wal.new }
-    ensures stays { IsTrue (D.tells wal.old.disk) → Stays wal.old.queues.items
-        (D.past wal.old.disk) (D.past wal.new.disk) }
-    ensures holds { IsTrue (D.tells wal.old.disk) → IfOk result (λ more. more ≡ true →
-        StillHolds wal.old.queues.items (now (D.past wal.old.disk)) (now (D.past wal.new.disk))) }
+    ensures same { SameLog D.facts wal.old wal.new }
+    ensures stays { IsTrue (D.facts.tells wal.old.disk) → Stays wal.old.queues.items
+        (D.facts.past wal.old.disk) (D.facts.past wal.new.disk) }
+    ensures holds { IsTrue (D.facts.tells wal.old.disk) → IfOk result (λ more. more ≡ true →
+        StillHolds wal.old.queues.items (now (D.facts.past wal.old.disk))
+        (now (D.facts.past wal.new.disk))) }
     ensures goes_on { IfOk result (λ more. more ≡ true → GoesOnAs full wal.old wal.new) }
     ensures clean { wal.new.dirty ≡ false }
     ensures failed { IfOk result (λ more. more ≡ false →
-        Rose (D.faults wal.old.disk) (D.faults wal.new.disk)) }
+        Rose (D.facts.faults wal.old.disk) (D.facts.faults wal.new.disk)) }
     ensures cause { IfErr result (IsLast wal.new) }
-    ensures going_on { IsTrue (D.tells wal.old.disk) → IfErr result (GoesOnAt wal.new) }
+    ensures going_on { IsTrue (D.facts.tells wal.old.disk) → IfErr result (GoesOnAt wal.new) }
 {
     if !full {
         return Ok(true);
@@ -65,18 +66,19 @@ fn begin_next<D: NodeDisk>(wal: &mut Wal<D>, alloc: Global, full: bool) -> Resul
 /// - `cause`, `going_on`: `Spent` comes only where the greatest number of a log file is at its end, and no call of
 ///   the disk has failed.
 pub(crate) fn sync_log<D: NodeDisk>(wal: &mut Wal<D>, alloc: Global) -> Result<SyncOutcome, Memory>
-    requires sound { IsSound D.tells D.past wal.old }
+    requires sound { IsSound D.facts wal.old }
     requires going { wal.old.stopped ≡ false }
-    ensures same { SameLog D.tells D.past D.faults wal.old wal.new }
-    ensures come { IsTrue (D.tells wal.old.disk) → IfOk result (λ outcome.
-        Comes outcome wal.old.queues.items (D.past wal.old.disk) (D.past wal.new.disk)) }
-    ensures stays { IsTrue (D.tells wal.old.disk) → Stays wal.old.queues.items
-        (D.past wal.old.disk) (D.past wal.new.disk) }
+    ensures same { SameLog D.facts wal.old wal.new }
+    ensures come { IsTrue (D.facts.tells wal.old.disk) → IfOk result (λ outcome.
+        Comes outcome wal.old.queues.items
+        (D.facts.past wal.old.disk) (D.facts.past wal.new.disk)) }
+    ensures stays { IsTrue (D.facts.tells wal.old.disk) → Stays wal.old.queues.items
+        (D.facts.past wal.old.disk) (D.facts.past wal.new.disk) }
     ensures leaves { IfOk result (λ outcome. Leaves outcome wal.old wal.new) }
     ensures failed { IfOk result
-        (FailsByCount (D.faults wal.old.disk) (D.faults wal.new.disk)) }
+        (FailsByCount (D.facts.faults wal.old.disk) (D.facts.faults wal.new.disk)) }
     ensures cause { IfErr result (IsLast wal.new) }
-    ensures going_on { IsTrue (D.tells wal.old.disk) → IfErr result (GoesOnAt wal.new) }
+    ensures going_on { IsTrue (D.facts.tells wal.old.disk) → IfErr result (GoesOnAt wal.new) }
 {
     let full = wal.full();
     match wal.sync_batch(alloc) {

@@ -6,7 +6,7 @@ use Rattle.std.proofs.lemmas.Bool.{and_from, cases_eq, eq-eqb, false≢true, ne_
 use Rattle.std.proofs.lemmas.Option.{get_or_from_slice_get, slice_get_cases, slice_get_within}
 use Rattle.qq_base.specs.declared.ids.NodeId.{NodeId}
 use Rattle.qq_base.specs.declared.ids.QueueId.{QueueId}
-use Rattle.qq_disk.specs.Disk.{Disk}
+use Rattle.qq_disk.specs.Facts.{DiskFacts}
 use Rattle.qq_entry.specs.declared.queue.QueueArgs.{QueueArgs}
 use Rattle.qq_group.specs.Group.{IsReached as IsGroupReached}
 use Rattle.qq_log.specs.declared.limits.TheConstants.{NODE_LIMIT}
@@ -145,9 +145,9 @@ module _ (setup : Setup) (rows : List QueueRow) (count : ℕ) (set : IsSetupOver
       (eq-eqb (length (setup.group (at + 1)).bag) 0 (ap length (set.each at row here).down.bag))
       (all-from (is_quiet_at ((new_cluster setup).queue (at + 1)) (λ k. false)) setup.nodes (λ k there. refl))
 
-  module _ {D : Type 0} {tells : D → Bool} {past : D → List Disk} where
-    node-begins : (at : ℕ) (disk : D) (node : Node D) → at < NODE_LIMIT → IsWhole tells past disk
-        → IsNewNode rows (at + 1) disk node → IsNodeOf tells past setup (new_cluster setup) (at + 1) node
+  module _ {D : Type 0} {facts : DiskFacts D} where
+    node-begins : (at : ℕ) (disk : D) (node : Node D) → at < NODE_LIMIT → IsWhole facts disk
+        → IsNewNode rows (at + 1) disk node → IsNodeOf facts setup (new_cluster setup) (at + 1) node
     node-begins at disk node few whole own = record {
       id_is = own.id_is;
       few = omega (arith, few);
@@ -166,9 +166,9 @@ module _ (setup : Setup) (rows : List QueueRow) (count : ℕ) (set : IsSetupOver
     }
 
     pub nodes-begin : (held : Held D) (disks : List D) → count ≡ length disks → length disks ≤ NODE_LIMIT
-        → All (IsWhole tells past) disks → AreQueuesFor rows held.queues.items
+        → All (IsWhole facts) disks → AreQueuesFor rows held.queues.items
         → AreNodesFor rows disks held.nodes.items → held.sessions ≡ [] → held.active ≡ [] → held.auto ≡ true
-        → Stands tells past setup held (new_cluster setup)
+        → Stands facts setup held (new_cluster setup)
     nodes-begin held disks long few whole queues nodes sessions active auto = record {
       set_up = subst (λ (n : ℕ). IsSetUp setup n (length held.nodes.items)) (sym queues.count)
           (subst (IsSetUp setup (length rows)) (long ∙ sym nodes.count) set.set_up);
@@ -178,7 +178,7 @@ module _ (setup : Setup) (rows : List QueueRow) (count : ℕ) (set : IsSetupOver
       nodes = λ at node here. (let disk = item-at disks held.nodes.items at node nodes.count here in
           node-begins at disk.0 node
           (let lt = slice_get_within disks at disk.0 disk.1 in omega (arith, lt, few))
-          (subst (IsWhole tells past) (get_or_from_slice_get disks at disk.0 disk.0 disk.1)
+          (subst (IsWhole facts) (get_or_from_slice_get disks at disk.0 disk.0 disk.1)
           (whole at disk.0 (slice_get_within disks at disk.0 disk.1)))
           (nodes.each at disk.0 node disk.1 here));
       auto = auto;
@@ -197,12 +197,12 @@ module _ (setup : Setup) (rows : List QueueRow) (count : ℕ) (set : IsSetupOver
             by (inr past_end) =
                 let le = past_end.0 in let many = queues.count in absurd (omega (arith, le, lt, many))
 
-module _ {D : Type 0} {tells : D → Bool} {past : D → List Disk} where
+module _ {D : Type 0} {facts : DiskFacts D} where
   pub new-nodes : (rows : List QueueRow) (held : Held D) (disks : List D)
       → ((setup : Setup) × IsSetupOver setup rows (length disks)) → length disks ≤ NODE_LIMIT
-      → All (IsWhole tells past) disks → AreQueuesFor rows held.queues.items
+      → All (IsWhole facts) disks → AreQueuesFor rows held.queues.items
       → AreNodesFor rows disks held.nodes.items → held.sessions ≡ [] → held.active ≡ [] → held.auto ≡ true
-      → AreNew tells past rows held
+      → AreNew facts rows held
   new-nodes rows held disks set few whole queues nodes sessions active auto = record {
     set = (set.0, subst (IsSetupOver set.0 rows) (sym nodes.count) set.1);
     queues = queues;
@@ -215,20 +215,20 @@ module _ {D : Type 0} {tells : D → Bool} {past : D → List Disk} where
     auto = auto;
   }
 
-  pub new-stands : (rows : List QueueRow) (held : Held D) → AreNew tells past rows held → (setup : Setup)
-      → IsSetupOver setup rows (length held.nodes.items) → Stands tells past setup held (new_cluster setup)
+  pub new-stands : (rows : List QueueRow) (held : Held D) → AreNew facts rows held → (setup : Setup)
+      → IsSetupOver setup rows (length held.nodes.items) → Stands facts setup held (new_cluster setup)
   new-stands rows held new setup set =
       nodes-begin setup rows (length held.nodes.items) set held new.disks new.nodes.count new.few new.whole new.queues
       new.nodes new.sessions new.active new.auto
 
 -- each node has its disk
-pub have-disks : {D : Type 0} (tells : D → Bool) (past : D → List Disk) (faults : D → ℕ) (rows : List QueueRow)
-    (disks : List D) (held : Held D) → AreNodesFor rows disks held.nodes.items
-    → HaveDisks tells past faults disks held
-have-disks tells past faults rows disks held nodes at disk here =
+pub have-disks : {D : Type 0} (facts : DiskFacts D) (rows : List QueueRow) (disks : List D) (held : Held D)
+    → AreNodesFor rows disks held.nodes.items
+    → HaveDisks facts disks held
+have-disks facts rows disks held nodes at disk here =
     let node = item-at held.nodes.items disks at disk (sym nodes.count) here in
     let own = nodes.each at disk node.0 here node.1 in
-    seen-own tells past faults held (at + 1) node.0 (Closed disk) (omega arith)
+    seen-own facts held (at + 1) node.0 (Closed disk) (omega arith)
     (subst (λ (i : ℕ). slice_get held.nodes.items i ≡ Some node.0) (let e : at ≡ (at + 1) - 1 = omega arith in e)
     node.1)
     own.log_is

@@ -1,10 +1,10 @@
 -- Nodes are crashed, one after the other.
-use Rattle.std.proofs.Common.{◌≡◌, ◌<◌, ◌≤◌, ◌+◌, ℕ, List, [], ◌∷◌, ◌++◌, Bool, Ok, Err, length, drop, refl, sym, ap, ◌∙◌, subst, inl, inr, arith, append-nil}
+use Rattle.std.proofs.Common.{◌≡◌, ◌<◌, ◌≤◌, ◌+◌, ℕ, List, [], ◌∷◌, ◌++◌, Ok, Err, length, drop, refl, sym, ap, ◌∙◌, subst, inl, inr, arith, append-nil}
 use Rattle.std.proofs.lemmas.List.FromFn.{length-range_with_len}
 use Rattle.qq_base.specs.Causes.{HasCause}
 use Rattle.qq_base.specs.declared.ids.NodeId.{NodeId}
-use Rattle.qq_disk.specs.Disk.{Disk}
 use Rattle.qq_disk.specs.declared.image.Image.{Image}
+use Rattle.qq_disk.specs.Facts.{DiskFacts}
 use Rattle.qq_ports.specs.Yard.{IsYardCaused}
 use Rattle.qq_ports.specs.declared.yard_fault.YardFault.{YardFault}
 use Rattle.qq_ports.specs.declared.yard_fault.YardFault.TheVariants.{Failed, Memory as OfMemory}
@@ -43,21 +43,20 @@ abbrev pub Crash : Image → Setup → ℕ → Cluster → List ClusterEvent →
 Crash image setup k = Is (Crashes k image)
 
 -- the first nodes were crashed
-abbrev pub CrashedTo : {D : Type 0} → (D → Bool) → (D → List Disk) → (D → ℕ) → Image → ℕ → Held D → Held D → Type 0
-CrashedTo tells past faults image at old new =
-    (outcome : Outcome) → HasHappened tells past faults (LeadsIn nodes_in at (Crash image)) old new outcome outcome
+abbrev pub CrashedTo : {D : Type 0} → DiskFacts D → Image → ℕ → Held D → Held D → Type 0
+CrashedTo facts image at old new =
+    (outcome : Outcome) → HasHappened facts (LeadsIn nodes_in at (Crash image)) old new outcome outcome
 
-module _ {D : Type 0} {tells : D → Bool} {past : D → List Disk} {faults : D → ℕ} where
-  pub crashed-none : (image : Image) (held : Held D) → CrashedTo tells past faults image 0 held held
+module _ {D : Type 0} {facts : DiskFacts D} where
+  pub crashed-none : (image : Image) (held : Held D) → CrashedTo facts image 0 held held
   crashed-none image held outcome = record {
     happened = λ setup c r st.
-        (serves-nothing setup c (LeadsIn nodes_in 0 (Crash image) setup c) (Stands tells past setup held)
-        (seen tells past faults held) outcome (leads-start (ForEach setup.nodes (Crash image setup)) c) st).did;
+        (serves-nothing setup c (LeadsIn nodes_in 0 (Crash image) setup c) (Stands facts setup held) (seen facts held)
+        outcome (leads-start (ForEach setup.nodes (Crash image setup)) c) st).did;
   }
 
-  pub crashed-can : (image : Image) (at : ℕ) (old new : Held D) → CanServe tells past old
-      → CrashedTo tells past faults image at old new
-      → CanServe tells past new × (length new.nodes.items ≡ length old.nodes.items)
+  pub crashed-can : (image : Image) (at : ℕ) (old new : Held D) → CanServe facts old → CrashedTo facts image at old new
+      → CanServe facts new × (length new.nodes.items ≡ length old.nodes.items)
   crashed-can image at old new can crashed =
       let s = (crashed no_outcome).happened can.0 can.1 can.2 can.3 in
       let first = ap length can.3.set_up.nodes in
@@ -69,17 +68,16 @@ module _ {D : Type 0} {tells : D → Bool} {past : D → List Disk} {faults : D 
       )
 
   pub crashed-more : (image : Image) (at : ℕ) (node : NodeId) (old mid new : Held D) → at < length mid.nodes.items
-      → ((setup : Setup) (c : Cluster) → Stands tells past setup mid c → node.0 ≡ at + 1)
-      → CrashedTo tells past faults image at old mid
-      → ((outcome : Outcome) → HasHappened tells past faults (λ setup. Crash image setup node.0) mid new outcome outcome)
-      → CrashedTo tells past faults image (at + 1) old new
+      → ((setup : Setup) (c : Cluster) → Stands facts setup mid c → node.0 ≡ at + 1) → CrashedTo facts image at old mid
+      → ((outcome : Outcome) → HasHappened facts (λ setup. Crash image setup node.0) mid new outcome outcome)
+      → CrashedTo facts image (at + 1) old new
   crashed-more image at node old mid new lt is first second outcome = record {
     happened = λ setup c r st. (let s = (first outcome).happened setup c r st in
         let d : Cluster = cluster_after c s.events in
         let t = (second outcome).happened setup d (reached-after setup c s.events r) s.stands in
         happened-both setup c (LeadsIn nodes_in at (Crash image) setup c) (Crash image setup node.0 d)
-        (LeadsIn nodes_in (at + 1) (Crash image) setup c) (Stands tells past setup mid) (Stands tells past setup new)
-        (seen tells past faults old) (seen tells past faults mid) (seen tells past faults new) outcome outcome outcome s t
+        (LeadsIn nodes_in (at + 1) (Crash image) setup c) (Stands facts setup mid) (Stands facts setup new)
+        (seen facts old) (seen facts mid) (seen facts new) outcome outcome outcome s t
         (leads-more (ForEach (drop at setup.nodes) (Crash image setup))
         (ForEach (drop (at + 1) setup.nodes) (Crash image setup)) (ForEach setup.nodes (Crash image setup)) c s.events
         t.events s.means
@@ -90,8 +88,8 @@ module _ {D : Type 0} {tells : D → Bool} {past : D → List Disk} {faults : D 
   }
 
   pub crashed-all : (image : Image) (at : ℕ) (old new : Held D) → length new.nodes.items ≤ at
-      → CrashedTo tells past faults image at old new → (outcome : Outcome)
-      → HasHappened tells past faults (λ (setup : Setup). ForEach setup.nodes (Crash image setup)) old new outcome outcome
+      → CrashedTo facts image at old new → (outcome : Outcome)
+      → HasHappened facts (λ (setup : Setup). ForEach setup.nodes (Crash image setup)) old new outcome outcome
   crashed-all image at old new le crashed outcome = record {
     happened = λ setup c r st. (let s = (crashed outcome).happened setup c r st in
         let d : Cluster = cluster_after c s.events in

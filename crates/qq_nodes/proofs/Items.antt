@@ -1,10 +1,10 @@
 -- What is read of a queue and of a node.
 use Rattle.std.proofs.Common.{◌≡◌, ◌<◌, ◌+◌, ◌-◌, ℕ, List, [], ◌∷◌, Some, length, get_or, refl, sym, ap, ◌∙◌, arith}
-use Rattle.std.specs.Prelude.{All, Bool, slice_get}
+use Rattle.std.specs.Prelude.{All, slice_get}
 use Rattle.std.proofs.lemmas.List.Elements.{All-from_all_within}
 use Rattle.std.proofs.lemmas.Option.{slice_get-get_or}
 use Rattle.qq_base.specs.declared.ids.NodeId.{NodeId}
-use Rattle.qq_disk.specs.Disk.{Disk}
+use Rattle.qq_disk.specs.Facts.{DiskFacts}
 use Rattle.qq_cluster.specs.Cluster.{Cluster, Setup}
 use Rattle.qq_cluster_queue.specs.Members.{AreSound}
 use Rattle.qq_cluster_queue.specs.declared.cluster_queue.ClusterQueue.{ClusterQueue}
@@ -22,15 +22,15 @@ pub node-here : {D : Type 0} (held : Held D) (x : Node D) (node : NodeId) → Is
 node-here held x node is here =
     item-here held.nodes.items (node.0 - 1) x (let low = is.0 in let high = is.1 in omega (arith, low, high)) here
 
-module _ {D : Type 0} {tells : D → Bool} {past : D → List Disk} where
+module _ {D : Type 0} {facts : DiskFacts D} where
   pub node-up : {setup : Setup} {held : Held D} {c : Cluster} {x : Node D} (node : NodeId)
-      → Stands tells past setup held c → IsNodeAt node held → slice_get held.nodes.items (node.0 - 1) ≡ Some x
+      → Stands facts setup held c → IsNodeAt node held → slice_get held.nodes.items (node.0 - 1) ≡ Some x
       → x.up ≡ c.up node.0
   node-up {c = c} {x = x} node st is here =
       (st.nodes (node.0 - 1) x here).up_is
       ∙ ap c.up (let low = is.0 in let e : (node.0 - 1) + 1 ≡ node.0 = omega (arith, low) in e)
 
-  pub queues-sound : {held : Held D} → CanServe tells past held
+  pub queues-sound : {held : Held D} → CanServe facts held
       → All (λ (d : ClusterQueue). AreSound d.group) held.queues.items
   queues-sound {held = held} can =
       All-from_all_within (λ (d : ClusterQueue). AreSound d.group) held.queues.items

@@ -1,6 +1,6 @@
 -- Two calls, one after the other, where what was told may be changed in between.
-use Rattle.std.proofs.Common.{◌≡◌, ℕ, Bool, List, ◌++◌, refl, subst}
-use Rattle.qq_disk.specs.Disk.{Disk}
+use Rattle.std.proofs.Common.{◌≡◌, ℕ, List, ◌++◌, refl, subst}
+use Rattle.qq_disk.specs.Facts.{DiskFacts}
 use Rattle.qq_cluster.specs.Cluster.{Cluster, ClusterEvent, Setup, cluster_after}
 use Rattle.qq_cluster.specs.Outcome.{Outcome, takers_after}
 use Rattle.qq_cluster.specs.Texts.{text_of}
@@ -14,8 +14,8 @@ use Rattle.qq_nodes.proofs.Outcomes.{outcome_after}
 use Rattle.qq_nodes.proofs.Stands.{Ruling, serves-from}
 
 -- the events of the one and of the other, what came of each, and what both together have served
-pub record Joined {D : Type 0} (tells : D → Bool) (past : D → List Disk) (faults : D → ℕ) (First Second : Ruling)
-    (old new : Held D) (before middle other later : Outcome) (setup : Setup) (c : Cluster) : Type 0 where
+pub record Joined {D : Type 0} (facts : DiskFacts D) (First Second : Ruling) (old new : Held D)
+    (before middle other later : Outcome) (setup : Setup) (c : Cluster) : Type 0 where
   pub early : List ClusterEvent
   pub late : List ClusterEvent
   pub first : First setup c early
@@ -24,8 +24,8 @@ pub record Joined {D : Type 0} (tells : D → Bool) (past : D → List Disk) (fa
   pub sees : middle.takers ≡ takers_after setup c early before.takers
   pub then_says : later.text ≡ other.text ++ text_of setup (cluster_after c early) late
   pub then_sees : later.takers ≡ takers_after setup (cluster_after c early) late other.takers
-  pub serves : Serves setup c (λ (events : List ClusterEvent). events ≡ early ++ late) (Stands tells past setup new)
-      (seen tells past faults old) (seen tells past faults new) before (outcome_after setup c (early ++ late) before)
+  pub serves : Serves setup c (λ (events : List ClusterEvent). events ≡ early ++ late) (Stands facts setup new)
+      (seen facts old) (seen facts new) before (outcome_after setup c (early ++ late) before)
 
 -- what came of a call whose events are these
 is-said : {setup : Setup} {c : Cluster} {Holds : Cluster → Type 0} {a b : ℕ → Seen} {before later : Outcome}
@@ -36,12 +36,11 @@ is-said {setup} {c} {Holds} {a} {b} {before} events s =
     Serves setup c (λ (m : List ClusterEvent). m ≡ events) Holds a b before (outcome_after setup c l before))
     s.did.means (serves-from before s)
 
-module _ {D : Type 0} {tells : D → Bool} {past : D → List Disk} {faults : D → ℕ} {First Second : Ruling}
-    {old mid new : Held D} {before middle other later : Outcome} where
-  pub served-join : Served tells past faults First old mid before middle
-      → Served tells past faults Second mid new other later → (setup : Setup) (c : Cluster) → IsReached setup c
-      → Stands tells past setup old c
-      → Joined tells past faults First Second old new before middle other later setup c
+module _ {D : Type 0} {facts : DiskFacts D} {First Second : Ruling} {old mid new : Held D}
+    {before middle other later : Outcome} where
+  pub served-join : Served facts First old mid before middle
+      → Served facts Second mid new other later → (setup : Setup) (c : Cluster) → IsReached setup c
+      → Stands facts setup old c → Joined facts First Second old new before middle other later setup c
   served-join first second setup c r st =
       let s = first.serves setup c r st in
       let d : Cluster = cluster_after c s.did.events in
@@ -58,7 +57,6 @@ module _ {D : Type 0} {tells : D → Bool} {past : D → List Disk} {faults : D 
         then_sees = t.did.sees;
         serves = is-said events
             (serves-both setup c (First setup c) (Second setup d) (λ (l : List ClusterEvent). l ≡ events)
-            (Stands tells past setup mid) (Stands tells past setup new) (seen tells past faults old)
-            (seen tells past faults mid) (seen tells past faults new) before middle
-            (outcome_after setup d t.did.events middle) s (serves-from middle t) refl);
+            (Stands facts setup mid) (Stands facts setup new) (seen facts old) (seen facts mid)
+            (seen facts new) before middle (outcome_after setup d t.did.events middle) s (serves-from middle t) refl);
       }

@@ -1,9 +1,9 @@
 -- Takers are asked, and their verdicts are followed.
-use Rattle.std.proofs.Common.{◌≡◌, ◌<◌, ◌+◌, ℕ, zero, suc, Bool, true, List, [], ◌∷◌, ◌++◌, Option, Some, None, get_or, length, refl, sym, ap, ◌∙◌, subst}
+use Rattle.std.proofs.Common.{◌≡◌, ◌<◌, ◌+◌, ℕ, zero, suc, true, List, [], ◌∷◌, ◌++◌, Option, Some, None, get_or, length, refl, sym, ap, ◌∙◌, subst}
 use Rattle.std.specs.List.{AllByRecursion}
 use Rattle.std.specs.Prelude.{slice_get, slice_set}
 use Rattle.std.proofs.lemmas.Option.{slice_get-get_or}
-use Rattle.qq_disk.specs.Disk.{Disk}
+use Rattle.qq_disk.specs.Facts.{DiskFacts}
 use Rattle.qq_entry.specs.declared.command.Unstamped.{Unstamped}
 use Rattle.qq_taker.specs.declared.handed.Handed.{Handed}
 use Rattle.qq_cluster.specs.Cluster.{Cluster, ClusterEvent, Setup, cluster_after}
@@ -73,12 +73,12 @@ judged-then claim place c events others = by (c.queue place).untold
       };
     }
 
-module _ {D : Type 0} {tells : D → Bool} {past : D → List Disk} where
+module _ {D : Type 0} {facts : DiskFacts D} where
   -- the same queues
   same-stands : (setup : Setup) (c : Cluster) (old new : Held D) → new ≡ record old { queues = new.queues }
-      → new.queues.items ≡ old.queues.items → Stands tells past setup old c → Stands tells past setup new c
+      → new.queues.items ≡ old.queues.items → Stands facts setup old c → Stands facts setup new c
   same-stands setup c old new same items st =
-      subst (λ (h : Held D). Stands tells past setup h c) (sym same) (record {
+      subst (λ (h : Held D). Stands facts setup h c) (sym same) (record {
         set_up = subst (λ (l : List ClusterQueue). IsSetUp setup (length l) (length old.nodes.items)) (sym items) st.set_up;
         queues = λ at d here. st.queues at d (ap (λ (l : List ClusterQueue). slice_get l at) (sym items) ∙ here);
         nodes = st.nodes;
@@ -88,23 +88,22 @@ module _ {D : Type 0} {tells : D → Bool} {past : D → List Disk} where
         quiet = λ at lt calm. st.quiet at (subst (λ (l : List ClusterQueue). at < length l) items lt) calm;
       })
 
-module _ {D : Type 0} {tells : D → Bool} {past : D → List Disk} {faults : D → ℕ} where
+module _ {D : Type 0} {facts : DiskFacts D} where
   pub served-judged : (claim : Option Claim) (at : ℕ) (old new : Held D) (before later : Outcome)
       → is_in at old.active ≡ true → new ≡ record old { queues = new.queues }
       → JudgesAt claim at old.queues.items new.queues.items before later
-      → Served tells past faults (λ setup. IsClaimedBy claim (at + 1)) old new before later
+      → Served facts (λ setup. IsClaimedBy claim (at + 1)) old new before later
   served-judged claim at old new before later active same judges = by judges.old.untold refl judges.judged
     where
       waits : (untold : List Handed) → judges.old.untold ≡ untold → (setup : Setup) (c : Cluster)
-          → Stands tells past setup old c → untold ≡ (c.queue (at + 1)).untold
+          → Stands facts setup old c → untold ≡ (c.queue (at + 1)).untold
       waits untold is setup c st = sym is ∙ sym (st.queues at judges.old judges.here).stands.untold
 
       by : (untold : List Handed) → judges.old.untold ≡ untold
           → HasJudged untold judges.old judges.new before later claim
-          → Served tells past faults (λ setup. IsClaimedBy claim (at + 1)) old new before later
+          → Served facts (λ setup. IsClaimedBy claim (at + 1)) old new before later
       by [] is none =
-          subst (λ (o : Outcome). Served tells past faults (λ setup. IsClaimedBy claim (at + 1)) old new before o)
-          (sym none.1)
+          subst (λ (o : Outcome). Served facts (λ setup. IsClaimedBy claim (at + 1)) old new before o) (sym none.1)
           (served-still old new before (ap (λ (h : Held D). h.nodes) same)
           (λ setup c r st. (
             subst (λ (untold : List Handed). IsClaimedWhere claim (at + 1) untold []) (waits [] is setup c st)

@@ -1,9 +1,8 @@
 -- The lines of a script.
-use Rattle.std.proofs.Common.{◌≡◌, ◌<◌, ◌≤◌, ◌+◌, ◌-◌, ℕ, Bool, true, false, List, Option, Some, None, ◌⊎◌, inl, inr, get_or, length, refl, sym, ap, ◌∙◌, subst, arith}
+use Rattle.std.proofs.Common.{◌≡◌, ◌<◌, ◌≤◌, ◌+◌, ◌-◌, ℕ, true, false, List, Option, Some, None, ◌⊎◌, inl, inr, get_or, length, refl, sym, ap, ◌∙◌, subst, arith}
 use Rattle.std.specs.Prelude.{slice_get}
 use Rattle.std.proofs.lemmas.List.FromFn.{length-range_with_len}
 use Rattle.qq_base.specs.declared.ids.QueueId.{QueueId}
-use Rattle.qq_disk.specs.Disk.{Disk}
 use Rattle.qq_entry.specs.declared.command.Unstamped.{Unstamped}
 use Rattle.qq_session.specs.Clients.{Clients}
 use Rattle.qq_cluster.specs.Cluster.{Alike, At, Cluster, ClusterEvent, SaysDown, Setup, Standing, cluster_happens, event_of}
@@ -24,6 +23,7 @@ use Rattle.qq_nodes.proofs.Stands.{Ruling, each-end, each-more, gave_up-each, ga
 use Rattle.qq_nodes.proofs.Total.{Total}
 use Rattle.qq_nodes.proofs.Walks.{drop-past, place-at}
 use Rattle.std.proofs.lemmas.Option.{slice_get_cases}
+use Rattle.qq_disk.specs.Facts.{DiskFacts}
 
 -- whether a session has ended is kept once for all queues
 ended-is : (sessions : Standings) (d : ClusterQueue) (q : Queue) (session : ℕ) → IsQueue sessions d q
@@ -34,8 +34,8 @@ pub queue-index : {D : Type 0} (held : Held D) (queue : QueueId) → IsQueueAt q
     → queue.0 - 1 < length held.queues.items
 queue-index held queue is = let low = is.0 in let high = is.1 in omega (arith, low, high)
 
-module _ {D : Type 0} {tells : D → Bool} {past : D → List Disk} where
-  pub ended-at : (setup : Setup) (c : Cluster) (held : Held D) (at session : ℕ) → Stands tells past setup held c
+module _ {D : Type 0} {facts : DiskFacts D} where
+  pub ended-at : (setup : Setup) (c : Cluster) (held : Held D) (at session : ℕ) → Stands facts setup held c
       → at < length held.queues.items
       → is_ended session (c.queue (at + 1)) ≡ (standings held.sessions session).ended
   ended-at setup c held at session st lt =
@@ -49,22 +49,21 @@ module _ {D : Type 0} {tells : D → Bool} {past : D → List Disk} where
           ended-is (standings held.sessions) found.0 (c.queue (at + 1)) session (st.queues at found.0 found.2).stands
       by (inr past_end) = let le = past_end.0 in absurd (omega (arith, le, lt))
 
-module _ {D : Type 0} {tells : D → Bool} {past : D → List Disk} {faults : D → ℕ} where
+module _ {D : Type 0} {facts : DiskFacts D} where
   -- a rule for the place of a queue
   pub at-queue : (Each : ℕ → Setup → Cluster → List ClusterEvent → Type 0) {old new : Held D}
       {before later : Outcome} (queue : QueueId) → 0 < queue.0
-      → Served tells past faults (Each ((queue.0 - 1) + 1)) old new before later
-      → Served tells past faults (Each queue.0) old new before later
+      → Served facts (Each ((queue.0 - 1) + 1)) old new before later → Served facts (Each queue.0) old new before later
   at-queue Each {old = old} {new = new} {before = before} {later = later} queue low served =
-      subst (λ (k : ℕ). Served tells past faults (Each k) old new before later)
+      subst (λ (k : ℕ). Served facts (Each k) old new before later)
       (let e : (queue.0 - 1) + 1 ≡ queue.0 = omega (arith, low) in e) served
 
   -- ---- a session that has ended, or not
 
   pub gives-ended : (at session : ℕ) (body : Unstamped) {old new : Held D} {before later : Outcome}
       → at < length old.queues.items → true ≡ (standings old.sessions session).ended
-      → Served tells past faults (λ setup. Is (At (at + 1) (TellsEnded session))) old new before later
-      → Served tells past faults (λ setup. IsGiven session body (at + 1)) old new before later
+      → Served facts (λ setup. Is (At (at + 1) (TellsEnded session))) old new before later
+      → Served facts (λ setup. IsGiven session body (at + 1)) old new before later
   gives-ended at session body {old = old} lt ended served =
       served-weaker served
       (λ setup c events r st allowed. rule-if (is_ended session (c.queue (at + 1)))
@@ -74,10 +73,9 @@ module _ {D : Type 0} {tells : D → Bool} {past : D → List Disk} {faults : D 
 
   pub gives : (at session : ℕ) (body : Unstamped) {old new : Held D} {before later : Outcome} (o : Option ℕ)
       → at < length old.queues.items → false ≡ (standings old.sessions session).ended
-      → ((setup : Setup) (c : Cluster) → Stands tells past setup old c
-      → o ≡ not_taken session body (c.queue (at + 1)))
-      → Served tells past faults (λ setup. IsClaimed o session body (at + 1)) old new before later
-      → Served tells past faults (λ setup. IsGiven session body (at + 1)) old new before later
+      → ((setup : Setup) (c : Cluster) → Stands facts setup old c → o ≡ not_taken session body (c.queue (at + 1)))
+      → Served facts (λ setup. IsClaimed o session body (at + 1)) old new before later
+      → Served facts (λ setup. IsGiven session body (at + 1)) old new before later
   gives at session body {old = old} o lt not' untaken served =
       served-weaker served
       (λ setup c events r st allowed. rule-else (is_ended session (c.queue (at + 1)))
@@ -90,18 +88,17 @@ module _ {D : Type 0} {tells : D → Bool} {past : D → List Disk} {faults : D 
   -- ---- where a node is up, or down
 
   pub where-up : {Rule : Ruling} (k : ℕ) {old new : Held D} {before later : Outcome}
-      → ((setup : Setup) (c : Cluster) → Stands tells past setup old c → true ≡ c.up k)
-      → Served tells past faults Rule old new before later
-      → Served tells past faults (λ setup. WhereUp k (Rule setup)) old new before later
+      → ((setup : Setup) (c : Cluster) → Stands facts setup old c → true ≡ c.up k)
+      → Served facts Rule old new before later → Served facts (λ setup. WhereUp k (Rule setup)) old new before later
   where-up {Rule = Rule} k up served =
       served-weaker served
       (λ setup c events r st allowed. rule-if (c.up k) (Rule setup) (Is (SaysDown k)) c events (sym (up setup c st))
       allowed)
 
   pub where-down : {Rule : Ruling} (k : ℕ) {old new : Held D} {before later : Outcome}
-      → ((setup : Setup) (c : Cluster) → Stands tells past setup old c → false ≡ c.up k)
-      → Served tells past faults (λ setup. Is (SaysDown k)) old new before later
-      → Served tells past faults (λ setup. WhereUp k (Rule setup)) old new before later
+      → ((setup : Setup) (c : Cluster) → Stands facts setup old c → false ≡ c.up k)
+      → Served facts (λ setup. Is (SaysDown k)) old new before later
+      → Served facts (λ setup. WhereUp k (Rule setup)) old new before later
   where-down {Rule = Rule} k down served =
       served-weaker served
       (λ setup c events r st allowed. rule-else (c.up k) (Rule setup) (Is (SaysDown k)) c events (sym (down setup c st))
@@ -114,12 +111,12 @@ module _ {D : Type 0} {tells : D → Bool} {past : D → List Disk} {faults : D 
       → ((q : Queue) → (happens q (event_of standing)).group ≡ q.group)
       → ((d : ClusterQueue) (q : Queue) → IsQueue (standings old.sessions) d q
       → IsQueue (standings new.sessions) d (happens q (event_of standing)))
-      → Served tells past faults (λ setup. Is (Alike standing)) old new outcome outcome
+      → Served facts (λ setup. Is (Alike standing)) old new outcome outcome
   served-alike standing old new outcome same group does =
       served-unseen (Alike standing) old new outcome outcome refl (ap (λ (h : Held D). h.nodes) same)
       (λ setup c r st. (
         refl,
-        subst (λ (h : Held D). Stands tells past setup h (cluster_happens c (Alike standing))) (sym same) (record {
+        subst (λ (h : Held D). Stands facts setup h (cluster_happens c (Alike standing))) (sym same) (record {
           set_up = st.set_up;
           queues = λ i d there. (let was = st.queues i d there in record {
             stands = does d (c.queue (i + 1)) was.stands;
@@ -141,17 +138,17 @@ module _ {D : Type 0} {tells : D → Bool} {past : D → List Disk} {faults : D 
 
   pub places-more : (Each : Setup → ℕ → Cluster → List ClusterEvent → Type 0) {old mid new : Held D}
       {before middle later : Outcome} (at : ℕ) → at < length mid.queues.items
-      → Served tells past faults (LeadsIn places_in at Each) old mid before middle
-      → Served tells past faults (λ setup. Each setup (at + 1)) mid new middle later
-      → Served tells past faults (LeadsIn places_in (at + 1) Each) old new before later
+      → Served facts (LeadsIn places_in at Each) old mid before middle
+      → Served facts (λ setup. Each setup (at + 1)) mid new middle later
+      → Served facts (LeadsIn places_in (at + 1) Each) old new before later
   places-more Each {mid = mid} at lt first second =
       each-more places_in Each at (at + 1)
       (λ setup c st. place-at setup.places (length mid.queues.items) at st.set_up.places lt) first second
 
   pub places-end : (Each : Setup → ℕ → Cluster → List ClusterEvent → Type 0) {old new : Held D} {before later : Outcome}
       (at : ℕ) → length new.queues.items ≤ at
-      → Served tells past faults (LeadsIn places_in at Each) old new before later
-      → Served tells past faults (λ setup. ForEach setup.places (Each setup)) old new before later
+      → Served facts (LeadsIn places_in at Each) old new before later
+      → Served facts (λ setup. ForEach setup.places (Each setup)) old new before later
   places-end Each {new = new} at le served =
       each-end places_in Each at
       (λ setup c st. drop-past setup.places at
@@ -162,16 +159,15 @@ module _ {D : Type 0} {tells : D → Bool} {past : D → List Disk} {faults : D 
 
   pub at-queue_gave_up : (Each : ℕ → Setup → Cluster → List ClusterEvent → Type 0) {old new : Held D}
       {memory : Memory} (queue : QueueId) → 0 < queue.0
-      → GaveUp tells past faults (Each ((queue.0 - 1) + 1)) old new memory
-      → GaveUp tells past faults (Each queue.0) old new memory
+      → GaveUp facts (Each ((queue.0 - 1) + 1)) old new memory → GaveUp facts (Each queue.0) old new memory
   at-queue_gave_up Each {old = old} {new = new} {memory = memory} queue low given =
-      subst (λ (k : ℕ). GaveUp tells past faults (Each k) old new memory)
+      subst (λ (k : ℕ). GaveUp facts (Each k) old new memory)
       (let e : (queue.0 - 1) + 1 ≡ queue.0 = omega (arith, low) in e) given
 
   pub ended-gave_up : (at session : ℕ) (body : Unstamped) {old new : Held D} {memory : Memory}
       → at < length old.queues.items → true ≡ (standings old.sessions session).ended
-      → GaveUp tells past faults (λ setup. Is (At (at + 1) (TellsEnded session))) old new memory
-      → GaveUp tells past faults (λ setup. IsGiven session body (at + 1)) old new memory
+      → GaveUp facts (λ setup. Is (At (at + 1) (TellsEnded session))) old new memory
+      → GaveUp facts (λ setup. IsGiven session body (at + 1)) old new memory
   ended-gave_up at session body {old = old} lt ended given =
       gave_up-weaker
       (λ setup c events r st allowed. rule-if (is_ended session (c.queue (at + 1)))
@@ -181,10 +177,9 @@ module _ {D : Type 0} {tells : D → Bool} {past : D → List Disk} {faults : D 
 
   pub submit-gave_up : (at session : ℕ) (body : Unstamped) {old new : Held D} {memory : Memory} (o : Option ℕ)
       → at < length old.queues.items → false ≡ (standings old.sessions session).ended
-      → ((setup : Setup) (c : Cluster) → Stands tells past setup old c
-      → o ≡ not_taken session body (c.queue (at + 1)))
-      → GaveUp tells past faults (λ setup. IsClaimed o session body (at + 1)) old new memory
-      → GaveUp tells past faults (λ setup. IsGiven session body (at + 1)) old new memory
+      → ((setup : Setup) (c : Cluster) → Stands facts setup old c → o ≡ not_taken session body (c.queue (at + 1)))
+      → GaveUp facts (λ setup. IsClaimed o session body (at + 1)) old new memory
+      → GaveUp facts (λ setup. IsGiven session body (at + 1)) old new memory
   submit-gave_up at session body {old = old} o lt not' untaken given =
       gave_up-weaker
       (λ setup c events r st allowed. rule-else (is_ended session (c.queue (at + 1)))
@@ -195,9 +190,8 @@ module _ {D : Type 0} {tells : D → Bool} {past : D → List Disk} {faults : D 
       (untaken setup c st) allowed)) given
 
   pub up-gave_up : {Rule : Ruling} (k : ℕ) {old new : Held D} {memory : Memory}
-      → ((setup : Setup) (c : Cluster) → Stands tells past setup old c → true ≡ c.up k)
-      → GaveUp tells past faults Rule old new memory
-      → GaveUp tells past faults (λ setup. WhereUp k (Rule setup)) old new memory
+      → ((setup : Setup) (c : Cluster) → Stands facts setup old c → true ≡ c.up k) → GaveUp facts Rule old new memory
+      → GaveUp facts (λ setup. WhereUp k (Rule setup)) old new memory
   up-gave_up {Rule = Rule} k up given =
       gave_up-weaker
       (λ setup c events r st allowed. rule-if (c.up k) (Rule setup) (Is (SaysDown k)) c events (sym (up setup c st))
@@ -205,9 +199,9 @@ module _ {D : Type 0} {tells : D → Bool} {past : D → List Disk} {faults : D 
 
   pub places-gave_up : (Each : Setup → ℕ → Cluster → List ClusterEvent → Type 0) {old mid new : Held D}
       {before middle : Outcome} {memory : Memory} (at : ℕ) → ((setup : Setup) (place : ℕ) → Total (Each setup place))
-      → at < length mid.queues.items → Served tells past faults (LeadsIn places_in at Each) old mid before middle
-      → GaveUp tells past faults (λ setup. Each setup (at + 1)) mid new memory
-      → GaveUp tells past faults (λ setup. ForEach setup.places (Each setup)) old new memory
+      → at < length mid.queues.items → Served facts (LeadsIn places_in at Each) old mid before middle
+      → GaveUp facts (λ setup. Each setup (at + 1)) mid new memory
+      → GaveUp facts (λ setup. ForEach setup.places (Each setup)) old new memory
   places-gave_up Each {mid = mid} at total lt first second =
       gave_up-each places_in Each at (at + 1) total
       (λ setup c st. place-at setup.places (length mid.queues.items) at st.set_up.places lt) first second

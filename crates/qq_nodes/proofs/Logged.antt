@@ -6,7 +6,8 @@ use Rattle.std.specs.List.{range_with_len}
 use Rattle.std.proofs.lemmas.Option.{slice_get-get_or}
 use Rattle.qq_base.specs.Causes.{Rose}
 use Rattle.qq_base.specs.declared.memory.Memory.{Memory}
-use Rattle.qq_disk.specs.Disk.{Disk, now}
+use Rattle.qq_disk.specs.Disk.{now}
+use Rattle.qq_disk.specs.Facts.{DiskFacts}
 use Rattle.qq_cluster.specs.Cluster.{Setup}
 use Rattle.qq_log.specs.declared.op.Op.{Op}
 use Rattle.qq_lots.specs.Lots.{Lot, Parts, give_batch, keep_all}
@@ -25,25 +26,24 @@ use Rattle.qq_nodes.proofs.OneQueue.{set-get, set-long}
 some-log : {A : Type 0} (x y : A) → Some x ≡ Some y → x ≡ y
 some-log x y e = cc
 
-module _ {D : Type 0} {tells : D → Bool} {past : D → List Disk} where
-  pub own-append : (ops : List Op) (x : Node D) (log : NodeLog D) → MayAppendAt tells past ops x → x.log ≡ Some log
-      → MayAppend tells past ops log
-  own-append ops x log may is = subst (MayAppend tells past ops) (some-log may.own log (sym may.is ∙ is)) may.may
+module _ {D : Type 0} {facts : DiskFacts D} where
+  pub own-append : (ops : List Op) (x : Node D) (log : NodeLog D) → MayAppendAt facts ops x → x.log ≡ Some log
+      → MayAppend facts ops log
+  own-append ops x log may is = subst (MayAppend facts ops) (some-log may.own log (sym may.is ∙ is)) may.may
 
-  pub own-sync : (x : Node D) (log : NodeLog D) → MaySyncAt tells past x → x.log ≡ Some log → MaySync tells past log
-  own-sync x log may is = subst (MaySync tells past) (some-log may.own log (sym may.is ∙ is)) may.may
+  pub own-sync : (x : Node D) (log : NodeLog D) → MaySyncAt facts x → x.log ≡ Some log → MaySync facts log
+  own-sync x log may is = subst (MaySync facts) (some-log may.own log (sym may.is ∙ is)) may.may
 
-  pub no-append : (ops : List Op) (x : Node D) → MayAppendAt tells past ops x → x.log ≡ None → ⊥
+  pub no-append : (ops : List Op) (x : Node D) → MayAppendAt facts ops x → x.log ≡ None → ⊥
   no-append ops x may is = absurd (let e : Some may.own ≡ None = sym may.is ∙ is in cc)
 
-  pub no-sync : (x : Node D) → MaySyncAt tells past x → x.log ≡ None → ⊥
+  pub no-sync : (x : Node D) → MaySyncAt facts x → x.log ≡ None → ⊥
   no-sync x may is = absurd (let e : Some may.own ≡ None = sym may.is ∙ is in cc)
 
-module _ {D : Type 0} {tells : D → Bool} {past : D → List Disk} {faults : D → ℕ} where
+module _ {D : Type 0} {facts : DiskFacts D} where
   abbrev changed : {parts : Lot → Parts → Parts} (x : Node D) (before behind : NodeLog D) → x.log ≡ Some before
-      → KeepsDisk tells past faults before behind → IsLater tells past (disk_in before) (disk_in behind)
-      → CallKeeps tells past parts before behind
-      → ChangesLog tells past faults parts x (record x { log = Some behind })
+      → KeepsDisk facts before behind → IsLater facts (disk_in before) (disk_in behind)
+      → CallKeeps facts parts before behind → ChangesLog facts parts x (record x { log = Some behind })
   changed x before behind was same later moments = record {
     before = before;
     behind = behind;
@@ -55,12 +55,12 @@ module _ {D : Type 0} {tells : D → Bool} {past : D → List Disk} {faults : D 
   }
 
   pub appended : (ops : List Op) (x : Node D) (before behind : NodeLog D) (result : Result Bool Memory)
-      → x.log ≡ Some before → KeepsDisk tells past faults before behind
-      → IsLater tells past (disk_in before) (disk_in behind)
-      → CallKeeps tells past (λ (lot : Lot). give_batch lot ops) before behind
-      → IfOk result (λ (more : Bool). more ≡ true → RunsOn tells past (λ (lot : Lot). give_batch lot ops) before behind)
-      → IfOk result (λ (more : Bool). more ≡ false → Rose (faults (disk_in before)) (faults (disk_in behind)))
-      → IfOk result (λ (more : Bool). Appends tells past faults ops more x (record x { log = Some behind }))
+      → x.log ≡ Some before → KeepsDisk facts before behind → IsLater facts (disk_in before) (disk_in behind)
+      → CallKeeps facts (λ (lot : Lot). give_batch lot ops) before behind
+      → IfOk result (λ (more : Bool). more ≡ true → RunsOn facts (λ (lot : Lot). give_batch lot ops) before behind)
+      → IfOk result (λ (more : Bool). more ≡ false → Rose (facts.faults (disk_in before))
+      (facts.faults (disk_in behind)))
+      → IfOk result (λ (more : Bool). Appends facts ops more x (record x { log = Some behind }))
   appended ops x before behind (Ok more) was same later moments runs failed = record {
     change = changed x before behind was same later moments;
     runs = runs;
@@ -69,12 +69,11 @@ module _ {D : Type 0} {tells : D → Bool} {past : D → List Disk} {faults : D 
   appended ops x before behind (Err memory) was same later moments runs failed = tt
 
   pub appended-spent : (ops : List Op) (x : Node D) (before behind : NodeLog D) (result : Result Bool Memory)
-      → x.log ≡ Some before → KeepsDisk tells past faults before behind
-      → IsLater tells past (disk_in before) (disk_in behind)
-      → CallKeeps tells past (λ (lot : Lot). give_batch lot ops) before behind → IfErr result (IsLongIn behind)
-      → (IsTrue (tells (disk_in before))
-      → IfErr result (λ (memory : Memory). IsLongOn memory (now (past (disk_in behind)))))
-      → IfErr result (λ (memory : Memory). AppendsInPart tells past faults ops memory x (record x { log = Some behind }))
+      → x.log ≡ Some before → KeepsDisk facts before behind → IsLater facts (disk_in before) (disk_in behind)
+      → CallKeeps facts (λ (lot : Lot). give_batch lot ops) before behind → IfErr result (IsLongIn behind)
+      → (IsTrue (facts.tells (disk_in before))
+      → IfErr result (λ (memory : Memory). IsLongOn memory (now (facts.past (disk_in behind)))))
+      → IfErr result (λ (memory : Memory). AppendsInPart facts ops memory x (record x { log = Some behind }))
   appended-spent ops x before behind (Ok more) was same later moments long shown = tt
   appended-spent ops x before behind (Err memory) was same later moments long shown = record {
     change = changed x before behind was same later moments;
@@ -83,12 +82,12 @@ module _ {D : Type 0} {tells : D → Bool} {past : D → List Disk} {faults : D 
   }
 
   pub synced : (x : Node D) (before behind : NodeLog D) (result : Result SyncOutcome Memory) → x.log ≡ Some before
-      → KeepsDisk tells past faults before behind → IsLater tells past (disk_in before) (disk_in behind)
-      → CallKeeps tells past (λ (lot : Lot) (parts : Parts). parts) before behind
-      → IfOk result (λ (outcome : SyncOutcome). outcome ≡ Whole → RunsOn tells past (λ (lot : Lot). keep_all) before behind)
-      → IfOk result (λ (outcome : SyncOutcome). SyncsIn tells past outcome before behind)
-      → IfOk result (FailsByCount (faults (disk_in before)) (faults (disk_in behind)))
-      → IfOk result (λ (outcome : SyncOutcome). Syncs tells past faults outcome x (record x { log = Some behind }))
+      → KeepsDisk facts before behind → IsLater facts (disk_in before) (disk_in behind)
+      → CallKeeps facts (λ (lot : Lot) (parts : Parts). parts) before behind
+      → IfOk result (λ (outcome : SyncOutcome). outcome ≡ Whole → RunsOn facts (λ (lot : Lot). keep_all) before behind)
+      → IfOk result (λ (outcome : SyncOutcome). SyncsIn facts outcome before behind)
+      → IfOk result (FailsByCount (facts.faults (disk_in before)) (facts.faults (disk_in behind)))
+      → IfOk result (λ (outcome : SyncOutcome). Syncs facts outcome x (record x { log = Some behind }))
   synced x before behind (Ok outcome) was same later moments runs come failed = record {
     change = changed x before behind was same later moments;
     runs = runs;
@@ -98,12 +97,11 @@ module _ {D : Type 0} {tells : D → Bool} {past : D → List Disk} {faults : D 
   synced x before behind (Err memory) was same later moments runs come failed = tt
 
   pub synced-spent : (x : Node D) (before behind : NodeLog D) (result : Result SyncOutcome Memory) → x.log ≡ Some before
-      → KeepsDisk tells past faults before behind → IsLater tells past (disk_in before) (disk_in behind)
-      → CallKeeps tells past (λ (lot : Lot) (parts : Parts). parts) before behind
-      → IfErr result (IsLastIn behind)
-      → (IsTrue (tells (disk_in before))
-      → IfErr result (λ (memory : Memory). IsLastOn memory (now (past (disk_in behind)))))
-      → IfErr result (λ (memory : Memory). SyncsInPart tells past faults memory x (record x { log = Some behind }))
+      → KeepsDisk facts before behind → IsLater facts (disk_in before) (disk_in behind)
+      → CallKeeps facts (λ (lot : Lot) (parts : Parts). parts) before behind → IfErr result (IsLastIn behind)
+      → (IsTrue (facts.tells (disk_in before))
+      → IfErr result (λ (memory : Memory). IsLastOn memory (now (facts.past (disk_in behind)))))
+      → IfErr result (λ (memory : Memory). SyncsInPart facts memory x (record x { log = Some behind }))
   synced-spent x before behind (Ok outcome) was same later moments last shown = tt
   synced-spent x before behind (Err memory) was same later moments last shown = record {
     change = changed x before behind was same later moments;

@@ -6,7 +6,7 @@ use Rattle.qq_base.specs.declared.ids.NodeId.{NodeId}
 use Rattle.qq_base.specs.declared.ids.QueueId.{QueueId}
 use Rattle.qq_base.specs.declared.memory.Memory.{Memory}
 use Rattle.qq_base.specs.declared.memory.Memory.TheVariants.{Want}
-use Rattle.qq_disk.specs.Disk.{Disk}
+use Rattle.qq_disk.specs.Facts.{DiskFacts}
 use Rattle.qq_entry.specs.declared.command.Entry.{Entry}
 use Rattle.qq_group_laws.specs.Addressed.{IsBetween, others}
 use Rattle.qq_raft_model.specs.Group.{Event as Move, Group as GroupState, group_after}
@@ -110,10 +110,10 @@ pub some-receiver : (o : Option NodeId) → is_some o ≡ true → (node : NodeI
 some-receiver None is = absurd cc
 some-receiver (Some node) is = (node, refl)
 
-module _ {D : Type 0} {tells : D → Bool} {past : D → List Disk} where
+module _ {D : Type 0} {facts : DiskFacts D} where
   -- a message's receiver is one of the nodes
   receiver-at : GoBetween → (setup : Setup) (c : Cluster) (held : Held D) (at n : ℕ) (node : NodeId) → IsReached setup c
-      → Stands tells past setup held c → at < length held.queues.items → receiver_at c (at + 1) n ≡ Some node.0
+      → Stands facts setup held c → at < length held.queues.items → receiver_at c (at + 1) n ≡ Some node.0
       → IsNodeAt node held
   receiver-at between setup c held at n node r st lt is =
       let gets : Gets (c.queue (at + 1)).group.bag node.0 = gets-at (c.queue (at + 1)).group.bag n node.0 is in
@@ -129,40 +129,40 @@ module _ {D : Type 0} {tells : D → Bool} {past : D → List Disk} where
       (subst (In node.0) st.set_up.nodes (subst (λ (k : ℕ). In k setup.nodes) gets.is one)) in
       (omega (arith, bounds.0), omega (arith, bounds.1))
 
-  pub receiver-node : GoBetween → (held : Held D) (at n : ℕ) (o : Option NodeId) → CanServe tells past held
+  pub receiver-node : GoBetween → (held : Held D) (at n : ℕ) (o : Option NodeId) → CanServe facts held
       → at < length held.queues.items
-      → ((setup : Setup) (c : Cluster) → Stands tells past setup held c → number_of o ≡ receiver_at c (at + 1) n)
+      → ((setup : Setup) (c : Cluster) → Stands facts setup held c → number_of o ≡ receiver_at c (at + 1) n)
       → IfSome o (λ (node : NodeId). IsNodeAt node held)
   receiver-node between held at n None can lt is = tt
   receiver-node between held at n (Some node) (setup, c, r, st) lt is =
       receiver-at between setup c held at n node r st lt (sym (is setup c st))
 
-abbrev pub Receives : {D : Type 0} → (D → Bool) → (D → List Disk) → Held D → ℕ → ℕ → Option NodeId → Type 0
-Receives tells past held at n o =
-    (setup : Setup) (c : Cluster) → Stands tells past setup held c → number_of o ≡ receiver_at c (at + 1) n
+abbrev pub Receives : {D : Type 0} → DiskFacts D → Held D → ℕ → ℕ → Option NodeId → Type 0
+Receives facts held at n o =
+    (setup : Setup) (c : Cluster) → Stands facts setup held c → number_of o ≡ receiver_at c (at + 1) n
 
-module _ {D : Type 0} {tells : D → Bool} {past : D → List Disk} {faults : D → ℕ} where
+module _ {D : Type 0} {facts : DiskFacts D} where
   -- ---- where there is one, or none
 
   pub there : (at n : ℕ) (event : Event) (o : Option NodeId) (k : NodeId) {old new : Held D} {before later : Outcome}
-      → o ≡ Some k → Receives tells past old at n o → Served tells past faults (λ setup. Is (At (at + 1) event)) old new before later
-      → Served tells past faults (λ setup c. WhereThere (receiver_at c (at + 1) n) event (at + 1) c) old new before later
+      → o ≡ Some k → Receives facts old at n o → Served facts (λ setup. Is (At (at + 1) event)) old new before later
+      → Served facts (λ setup c. WhereThere (receiver_at c (at + 1) n) event (at + 1) c) old new before later
   there at n event o k is receives served =
       served-weaker served
       (λ setup c events r st allowed. there-some (receiver_at c (at + 1) n) k.0 event (at + 1) c events
       (sym (receives setup c st) ∙ ap number_of is) allowed)
 
   pub not-there : (at n : ℕ) (event : Event) (o : Option NodeId) {old new : Held D} {before later : Outcome} → o ≡ None
-      → Receives tells past old at n o → Served tells past faults (λ setup. Is SaysNoSuch) old new before later
-      → Served tells past faults (λ setup c. WhereThere (receiver_at c (at + 1) n) event (at + 1) c) old new before later
+      → Receives facts old at n o → Served facts (λ setup. Is SaysNoSuch) old new before later
+      → Served facts (λ setup c. WhereThere (receiver_at c (at + 1) n) event (at + 1) c) old new before later
   not-there at n event o is receives served =
       served-weaker served
       (λ setup c events r st allowed. there-none (receiver_at c (at + 1) n) event (at + 1) c events
       (sym (receives setup c st) ∙ ap number_of is) allowed)
 
   pub there-gave_up : (at n : ℕ) (event : Event) (o : Option NodeId) (k : NodeId) {old new : Held D} {memory : Memory}
-      → o ≡ Some k → Receives tells past old at n o → GaveUp tells past faults (λ setup. Is (At (at + 1) event)) old new memory
-      → GaveUp tells past faults (λ setup c. WhereThere (receiver_at c (at + 1) n) event (at + 1) c) old new memory
+      → o ≡ Some k → Receives facts old at n o → GaveUp facts (λ setup. Is (At (at + 1) event)) old new memory
+      → GaveUp facts (λ setup c. WhereThere (receiver_at c (at + 1) n) event (at + 1) c) old new memory
   there-gave_up at n event o k is receives given =
       gave_up-weaker
       (λ setup c events r st allowed. there-some (receiver_at c (at + 1) n) k.0 event (at + 1) c events
@@ -171,19 +171,19 @@ module _ {D : Type 0} {tells : D → Bool} {past : D → List Disk} {faults : D 
   -- ---- deliveries
 
   pub delivered-up : (place at : ℕ) (node : NodeId) {old mid : Held D} {before middle : Outcome}
-      → ((setup : Setup) (c : Cluster) → Stands tells past setup mid c → true ≡ c.up node.0)
-      → Served tells past faults (λ setup. Tells place (Delivers at)) old mid before middle
-      → Served tells past faults (λ setup. IsDelivered place at (Some node.0)) old mid before middle
+      → ((setup : Setup) (c : Cluster) → Stands facts setup mid c → true ≡ c.up node.0)
+      → Served facts (λ setup. Tells place (Delivers at)) old mid before middle
+      → Served facts (λ setup. IsDelivered place at (Some node.0)) old mid before middle
   delivered-up place at node {mid = mid} {middle = middle} up served =
       served-then served
       (served-nothing {Rule = λ setup c. if_so (c.up node.0) IsNothing (Is (SaysDown node.0)) c} mid middle
       (λ setup c r st. rule-if (c.up node.0) IsNothing (Is (SaysDown node.0)) c [] (sym (up setup c st)) refl))
 
   pub delivered-down : (place at : ℕ) (node : NodeId) {old mid new : Held D} {before middle later : Outcome}
-      → ((setup : Setup) (c : Cluster) → Stands tells past setup mid c → false ≡ c.up node.0)
-      → Served tells past faults (λ setup. Tells place (Delivers at)) old mid before middle
-      → Served tells past faults (λ setup. Is (SaysDown node.0)) mid new middle later
-      → Served tells past faults (λ setup. IsDelivered place at (Some node.0)) old new before later
+      → ((setup : Setup) (c : Cluster) → Stands facts setup mid c → false ≡ c.up node.0)
+      → Served facts (λ setup. Tells place (Delivers at)) old mid before middle
+      → Served facts (λ setup. Is (SaysDown node.0)) mid new middle later
+      → Served facts (λ setup. IsDelivered place at (Some node.0)) old new before later
   delivered-down place at node down first second =
       served-then first
       (served-weaker {More = λ setup c. if_so (c.up node.0) IsNothing (Is (SaysDown node.0)) c} second
@@ -191,16 +191,16 @@ module _ {D : Type 0} {tells : D → Bool} {past : D → List Disk} {faults : D 
       (sym (down setup c st)) allowed))
 
   pub deliver-gave_up : (place at : ℕ) (node : NodeId) {old new : Held D} {memory : Memory}
-      → GaveUp tells past faults (λ setup. Tells place (Delivers at)) old new memory
-      → GaveUp tells past faults (λ setup. IsDelivered place at (Some node.0)) old new memory
+      → GaveUp facts (λ setup. Tells place (Delivers at)) old new memory
+      → GaveUp facts (λ setup. IsDelivered place at (Some node.0)) old new memory
   deliver-gave_up place at node given =
       gave_up-first {Second = λ setup c. if_so (c.up node.0) IsNothing (Is (SaysDown node.0)) c}
       (λ setup c. total-if (c.up node.0) IsNothing (Is (SaysDown node.0)) c (total-nothing c)
       (total-is (SaysDown node.0) c)) given
 
   pub delivered-wants : (place at : ℕ) (node : NodeId) {old mid new : Held D} {before middle : Outcome} {memory : Memory}
-      → Served tells past faults (λ setup. Tells place (Delivers at)) old mid before middle → new.nodes ≡ mid.nodes
-      → memory ≡ Want → GaveUp tells past faults (λ setup. IsDelivered place at (Some node.0)) old new memory
+      → Served facts (λ setup. Tells place (Delivers at)) old mid before middle → new.nodes ≡ mid.nodes
+      → memory ≡ Want → GaveUp facts (λ setup. IsDelivered place at (Some node.0)) old new memory
   delivered-wants place at node {mid = mid} {new = new} {memory = memory} first nodes want =
       gave_up-second {Second = λ setup c. if_so (c.up node.0) IsNothing (Is (SaysDown node.0)) c} first
       (gave_up-same mid new memory nodes want)
@@ -210,17 +210,17 @@ module _ {D : Type 0} {tells : D → Bool} {past : D → List Disk} {faults : D 
   pub no-message : (message : ℕ) (Rule : ℕ → ℕ → Cluster → List ClusterEvent → Type 0) (place : ℕ) {old new : Held D}
       {before later : Outcome} → message ≡ 0
       → ((c : Cluster) (events : List ClusterEvent) → Is SaysNoSuch c events → Rule place 0 c events)
-      → Served tells past faults (λ setup. Is SaysNoSuch) old new before later
-      → Served tells past faults (λ setup. Rule place message) old new before later
+      → Served facts (λ setup. Is SaysNoSuch) old new before later
+      → Served facts (λ setup. Rule place message) old new before later
   no-message message Rule place {old = old} {new = new} {before = before} {later = later} zero' is served =
-      subst (λ (n : ℕ). Served tells past faults (λ setup. Rule place n) old new before later) (sym zero')
+      subst (λ (n : ℕ). Served facts (λ setup. Rule place n) old new before later) (sym zero')
       (served-weaker served (λ setup c events r st allowed. is c events allowed))
 
   pub delivers : (queue : QueueId) (message : ℕ) (o : Option NodeId) (k : NodeId) {old new : Held D}
-      {before later : Outcome} → 0 < queue.0 → 0 < message → o ≡ Some k → Receives tells past old (queue.0 - 1) (message - 1) o
-      → Served tells past faults (λ setup. IsDelivered ((queue.0 - 1) + 1) (message - 1) (number_of (Some k))) old new
-      before later
-      → Served tells past faults (λ setup. IsDeliver queue.0 message) old new before later
+      {before later : Outcome} → 0 < queue.0 → 0 < message → o ≡ Some k → Receives facts old
+      (queue.0 - 1) (message - 1) o
+      → Served facts (λ setup. IsDelivered ((queue.0 - 1) + 1) (message - 1) (number_of (Some k))) old new before later
+      → Served facts (λ setup. IsDeliver queue.0 message) old new before later
   delivers queue message o k {old = old} low some is receives served =
       at-queue (λ place setup. IsDeliver place message) queue low
       (served-weaker served
@@ -229,9 +229,9 @@ module _ {D : Type 0} {tells : D → Bool} {past : D → List Disk} {faults : D 
       (sym (ap number_of is) ∙ receives setup c st) allowed)))
 
   pub delivers-none : (queue : QueueId) (message : ℕ) (o : Option NodeId) {old new : Held D} {before later : Outcome}
-      → 0 < queue.0 → 0 < message → o ≡ None → Receives tells past old (queue.0 - 1) (message - 1) o
-      → Served tells past faults (λ setup. Is SaysNoSuch) old new before later
-      → Served tells past faults (λ setup. IsDeliver queue.0 message) old new before later
+      → 0 < queue.0 → 0 < message → o ≡ None → Receives facts old (queue.0 - 1) (message - 1) o
+      → Served facts (λ setup. Is SaysNoSuch) old new before later
+      → Served facts (λ setup. IsDeliver queue.0 message) old new before later
   delivers-none queue message o low some is receives served =
       at-queue (λ place setup. IsDeliver place message) queue low
       (served-weaker served
@@ -240,10 +240,9 @@ module _ {D : Type 0} {tells : D → Bool} {past : D → List Disk} {faults : D 
       (sym (ap number_of is) ∙ receives setup c st) allowed)))
 
   pub delivers-gave_up : (queue : QueueId) (message : ℕ) (o : Option NodeId) (k : NodeId) {old new : Held D}
-      {memory : Memory} → 0 < queue.0 → 0 < message → o ≡ Some k → Receives tells past old (queue.0 - 1) (message - 1) o
-      → GaveUp tells past faults (λ setup. IsDelivered ((queue.0 - 1) + 1) (message - 1) (number_of (Some k))) old new
-      memory
-      → GaveUp tells past faults (λ setup. IsDeliver queue.0 message) old new memory
+      {memory : Memory} → 0 < queue.0 → 0 < message → o ≡ Some k → Receives facts old (queue.0 - 1) (message - 1) o
+      → GaveUp facts (λ setup. IsDelivered ((queue.0 - 1) + 1) (message - 1) (number_of (Some k))) old new memory
+      → GaveUp facts (λ setup. IsDeliver queue.0 message) old new memory
   delivers-gave_up queue message o k low some is receives given =
       at-queue_gave_up (λ place setup. IsDeliver place message) queue low
       (gave_up-weaker
@@ -256,9 +255,9 @@ module _ {D : Type 0} {tells : D → Bool} {past : D → List Disk} {faults : D 
       → ((place message : ℕ) (c : Cluster) (events : List ClusterEvent) → 0 < message
       → WhereThere (receiver_at c place (message - 1)) (event (message - 1)) place c events → Rule place message c events)
       → (queue : QueueId) (message : ℕ) {old new : Held D} {before later : Outcome} → 0 < queue.0 → 0 < message
-      → Served tells past faults (λ setup c. WhereThere (receiver_at c ((queue.0 - 1) + 1) (message - 1))
-      (event (message - 1)) ((queue.0 - 1) + 1) c) old new before later
-      → Served tells past faults (λ setup. Rule queue.0 message) old new before later
+      → Served facts (λ setup c. WhereThere (receiver_at c ((queue.0 - 1) + 1) (message - 1)) (event (message - 1))
+      ((queue.0 - 1) + 1) c) old new before later
+      → Served facts (λ setup. Rule queue.0 message) old new before later
   happens-there Rule event is queue message low some served =
       at-queue (λ place setup. Rule place message) queue low
       (served-weaker served (λ setup c events r st allowed. is ((queue.0 - 1) + 1) message c events some allowed))
@@ -267,9 +266,9 @@ module _ {D : Type 0} {tells : D → Bool} {past : D → List Disk} {faults : D 
       → ((place message : ℕ) (c : Cluster) (events : List ClusterEvent) → 0 < message
       → WhereThere (receiver_at c place (message - 1)) (event (message - 1)) place c events → Rule place message c events)
       → (queue : QueueId) (message : ℕ) {old new : Held D} {memory : Memory} → 0 < queue.0 → 0 < message
-      → GaveUp tells past faults (λ setup c. WhereThere (receiver_at c ((queue.0 - 1) + 1) (message - 1))
-      (event (message - 1)) ((queue.0 - 1) + 1) c) old new memory
-      → GaveUp tells past faults (λ setup. Rule queue.0 message) old new memory
+      → GaveUp facts (λ setup c. WhereThere (receiver_at c ((queue.0 - 1) + 1) (message - 1)) (event (message - 1))
+      ((queue.0 - 1) + 1) c) old new memory
+      → GaveUp facts (λ setup. Rule queue.0 message) old new memory
   there-gave_up_line Rule event is queue message low some given =
       at-queue_gave_up (λ place setup. Rule place message) queue low
       (gave_up-weaker (λ setup c events r st allowed. is ((queue.0 - 1) + 1) message c events some allowed) given)

@@ -5,7 +5,7 @@ use Rattle.std.specs.List.{AllByRecursion, flat_map}
 use Rattle.std.proofs.lemmas.Bool.{eq-eqb, false≢true, ne_eqb}
 use Rattle.std.proofs.lemmas.Option.{slice_get-get_or}
 use Rattle.qq_cluster_queue.specs.Members.{AreSound}
-use Rattle.qq_disk.specs.Disk.{Disk}
+use Rattle.qq_disk.specs.Facts.{DiskFacts}
 use Rattle.qq_lots.specs.Lots.{Parts}
 use Rattle.qq_session.specs.Shown.{Shown}
 use Rattle.qq_cluster.specs.Cluster.{At, Cluster, ClusterEvent, Of, Sets, Setup, cluster_happens}
@@ -149,10 +149,10 @@ other-queue : (c : Cluster) (place other : ℕ) (event : Event) → (other ≢ p
 other-queue c place other event apart =
     ap (λ (b : Bool). after (c.queue other) (cond b (event ∷ []) [])) (ne_eqb place other (λ e. apart (sym e)))
 
-module _ {D : Type 0} {tells : D → Bool} {past : D → List Disk} where
+module _ {D : Type 0} {facts : DiskFacts D} where
   -- a node whose log doesn't see the event stands as before
   pub node-stays : (setup : Setup) (c : Cluster) (event : ClusterEvent) (k : ℕ) (node : Node D) → sees k event ≡ false
-      → IsNodeOf tells past setup c k node → IsNodeOf tells past setup (cluster_happens c event) k node
+      → IsNodeOf facts setup c k node → IsNodeOf facts setup (cluster_happens c event) k node
   node-stays setup c event k node unseen is = record {
     id_is = is.id_is;
     few = is.few;
@@ -162,9 +162,9 @@ module _ {D : Type 0} {tells : D → Bool} {past : D → List Disk} where
     members = unseen-follow setup c k event unseen is.members;
     own = is.own;
     log_is = is.log_is;
-    log = subst (λ (b : Bool). IsLog tells past (lot_of setup k) (parts_at (cluster_happens c event) k) b is.own)
+    log = subst (λ (b : Bool). IsLog facts (lot_of setup k) (parts_at (cluster_happens c event) k) b is.own)
         (sym (up-stays c k event unseen))
-        (subst (λ (parts : Parts). IsLog tells past (lot_of setup k) parts (c.up k) is.own)
+        (subst (λ (parts : Parts). IsLog facts (lot_of setup k) parts (c.up k) is.own)
         (sym (parts-stay c k event unseen)) is.log);
   }
 
@@ -172,9 +172,9 @@ module _ {D : Type 0} {tells : D → Bool} {past : D → List Disk} where
       → touched event ≡ None → is_in at old.active ≡ true
       → new ≡ record old { queues = new.queues }
       → DoesAt event (standings old.sessions) at old.queues.items new.queues.items before later
-      → Stands tells past setup old c → Stands tells past setup new (cluster_happens c (At (at + 1) event))
+      → Stands facts setup old c → Stands facts setup new (cluster_happens c (At (at + 1) event))
   stands-at setup c at event old new before later unseen active same does st =
-      subst (λ (h : Held D). Stands tells past setup h after_it) (sym same) (record {
+      subst (λ (h : Held D). Stands facts setup h after_it) (sym same) (record {
         set_up = subst (λ (n : ℕ). IsSetUp setup n (length old.nodes.items)) (sym long) st.set_up;
         queues = queue_at;
         nodes = λ i node there. node-stays setup c (At (at + 1) event) (i + 1) node (ap (is_node (i + 1)) unseen)
@@ -223,12 +223,12 @@ module _ {D : Type 0} {tells : D → Bool} {past : D → List Disk} where
                 place_is = was.place_is;
               }
 
-module _ {D : Type 0} {tells : D → Bool} {past : D → List Disk} {faults : D → ℕ} where
+module _ {D : Type 0} {facts : DiskFacts D} where
   -- a queue that is active does what is asked of it
   pub served-at : (event : Event) (at : ℕ) (old new : Held D) (before later : Outcome)
       → touched event ≡ None → is_in at old.active ≡ true → new ≡ record old { queues = new.queues }
       → DoesAt event (standings old.sessions) at old.queues.items new.queues.items before later
-      → Served tells past faults (λ setup. Is (At (at + 1) event)) old new before later
+      → Served facts (λ setup. Is (At (at + 1) event)) old new before later
   served-at event at old new before later unseen active same does =
       served-unseen (At (at + 1) event) old new before later unseen (ap (λ (h : Held D). h.nodes) same)
       (λ setup c r st. (let was = st.queues at does.old does.here in (
@@ -241,12 +241,12 @@ module _ {D : Type 0} {tells : D → Bool} {past : D → List Disk} {faults : D 
   -- a queue that is active from here on
   pub served-woken : (at : ℕ) (old new : Held D) (outcome : Outcome) → at < length old.queues.items
       → new ≡ record old { active = new.active } → new.active ≡ put_in at old.active
-      → Served tells past faults (λ setup. IsNothing) old new outcome outcome
+      → Served facts (λ setup. IsNothing) old new outcome outcome
   served-woken at old new outcome lt same active =
       served-still old new outcome (ap (λ (h : Held D). h.nodes) same)
       (λ setup c r st. (
         refl,
-        subst (λ (h : Held D). Stands tells past setup h c) (sym same) (record {
+        subst (λ (h : Held D). Stands facts setup h c) (sym same) (record {
           set_up = st.set_up;
           queues = st.queues;
           nodes = st.nodes;
@@ -265,7 +265,7 @@ module _ {D : Type 0} {tells : D → Bool} {past : D → List Disk} {faults : D 
       → ((c : Cluster) (place : ℕ) → (cluster_happens c event).queue place ≡ c.queue place)
       → ((c : Cluster) → (cluster_happens c event).up ≡ c.up) → ((c : Cluster) → (cluster_happens c event).auto ≡ c.auto)
       → ((setup : Setup) (c : Cluster) → later ≡ outcome_after setup c (event ∷ []) before)
-      → Served tells past faults (λ setup. Is event) held held before later
+      → Served facts (λ setup. Is event) held held before later
   served-said event held before later unseen queues ups autos says =
       served-unseen event held held before later unseen refl
       (λ setup c r st. (
@@ -289,7 +289,7 @@ module _ {D : Type 0} {tells : D → Bool} {past : D → List Disk} {faults : D 
       ))
 
   pub served-auto : (auto : Bool) (held : Held D) (outcome : Outcome)
-      → Served tells past faults (λ setup. Is (Sets auto)) held (record held { auto = auto }) outcome outcome
+      → Served facts (λ setup. Is (Sets auto)) held (record held { auto = auto }) outcome outcome
   served-auto auto held outcome =
       served-unseen (Sets auto) held (record held { auto = auto }) outcome outcome refl refl
       (λ setup c r st. (

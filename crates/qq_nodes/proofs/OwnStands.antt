@@ -5,6 +5,7 @@ use Rattle.std.specs.List.{AllByRecursion}
 use Rattle.std.proofs.lemmas.Bool.{false≢true, lt-ltb}
 use Rattle.qq_base.specs.Causes.{Rose}
 use Rattle.qq_disk.specs.Disk.{Disk, now}
+use Rattle.qq_disk.specs.Facts.{DiskFacts}
 use Rattle.qq_lots.specs.Lots.{Lot, Parts, ids_of}
 use Rattle.qq_raft_protocol.specs.Facts.{In}
 use Rattle.qq_cluster.specs.Cluster.{Cluster, ClusterEvent, Fails, Setup, cluster_after, cluster_happens}
@@ -87,26 +88,26 @@ pub record Changes {D : Type 0} (k : ℕ) (old new : Held D) (x y : Node D) : Ty
   pub nodes : new.nodes.items ≡ slice_set old.nodes.items (k - 1) y
   pub many : length new.queues.items ≡ length old.queues.items
 
-module _ {D : Type 0} {tells : D → Bool} {past : D → List Disk} where
+module _ {D : Type 0} {facts : DiskFacts D} where
   others-stay : (setup : Setup) (c : Cluster) (k j : ℕ) (events : List ClusterEvent) (x : Node D) → AllOwn k events
-      → (j ≢ k) → IsNodeOf tells past setup c j x → IsNodeOf tells past setup (cluster_after c events) j x
+      → (j ≢ k) → IsNodeOf facts setup c j x → IsNodeOf facts setup (cluster_after c events) j x
   others-stay setup c k j [] x own other is = is
   others-stay setup c k j (event ∷ events) x own other is =
       others-stay setup (cluster_happens c event) k j events x own.1 other
       (node-stays setup c event j x (other-sees k j event own.0 other) is)
 
-  pub node-was : (setup : Setup) (c : Cluster) (held : Held D) (k : ℕ) (x : Node D) → Stands tells past setup held c → 0 < k
-      → slice_get held.nodes.items (k - 1) ≡ Some x → IsNodeOf tells past setup c k x
+  pub node-was : (setup : Setup) (c : Cluster) (held : Held D) (k : ℕ) (x : Node D) → Stands facts setup held c → 0 < k
+      → slice_get held.nodes.items (k - 1) ≡ Some x → IsNodeOf facts setup c k x
   node-was setup c held k x st low here =
-      subst (λ (j : ℕ). IsNodeOf tells past setup c j x) (let e : (k - 1) + 1 ≡ k = omega (arith, low) in e)
+      subst (λ (j : ℕ). IsNodeOf facts setup c j x) (let e : (k - 1) + 1 ≡ k = omega (arith, low) in e)
       (st.nodes (k - 1) x here)
 
   -- a node that is up isn't marked as empty
-  pub not-fresh : {setup : Setup} {c : Cluster} {k : ℕ} {x : Node D} → IsNodeOf tells past setup c k x → c.up k ≡ true
+  pub not-fresh : {setup : Setup} {c : Cluster} {k : ℕ} {x : Node D} → IsNodeOf facts setup c k x → c.up k ≡ true
       → x.empty ≡ true → ⊥
   not-fresh was up never = false≢true (sym (was.fresh never).0 ∙ was.up_is ∙ up)
 
-  pub node-in : (setup : Setup) (c : Cluster) (held : Held D) (k : ℕ) → Stands tells past setup held c → 0 < k
+  pub node-in : (setup : Setup) (c : Cluster) (held : Held D) (k : ℕ) → Stands facts setup held c → 0 < k
       → k ≤ length held.nodes.items → In k setup.nodes
   node-in setup c held k st low high =
       subst (λ (j : ℕ). In j setup.nodes) (let e : (k - 1) + 1 ≡ k = omega (arith, low) in e)
@@ -114,15 +115,15 @@ module _ {D : Type 0} {tells : D → Bool} {past : D → List Disk} where
       (in-range (length held.nodes.items) (k - 1) (omega (arith, low, high))))
 
   pub stands-own : (setup : Setup) (c : Cluster) (k : ℕ) (events : List ClusterEvent) (old new : Held D) (x y : Node D)
-      → AllOwn k events → Changes k old new x y → Stands tells past setup old c
-      → IsNodeOf tells past setup (cluster_after c events) k y
+      → AllOwn k events → Changes k old new x y → Stands facts setup old c
+      → IsNodeOf facts setup (cluster_after c events) k y
       → QueuesOf setup (standings old.sessions) (cluster_after c events) new.queues.items
       → (cluster_after c events).auto ≡ c.auto
       → ((at : ℕ) → at < length old.queues.items → is_in at old.active ≡ false
       → is_quiet setup (cluster_after c events).up ((cluster_after c events).queue (at + 1)) ≡ true)
-      → Stands tells past setup new (cluster_after c events)
+      → Stands facts setup new (cluster_after c events)
   stands-own setup c k events old new x y own ch st node queues auto quiet =
-      subst (λ (h : Held D). Stands tells past setup h (cluster_after c events)) (sym ch.same) (record {
+      subst (λ (h : Held D). Stands facts setup h (cluster_after c events)) (sym ch.same) (record {
         set_up = subst (λ (n : ℕ). IsSetUp setup n (length new.nodes.items)) (sym ch.many)
             (subst (IsSetUp setup (length old.queues.items))
             (sym (ap length ch.nodes ∙ set-long old.nodes.items (k - 1) y)) st.set_up);
@@ -134,16 +135,16 @@ module _ {D : Type 0} {tells : D → Bool} {past : D → List Disk} where
       })
     where
       nodes : (i : ℕ) (z : Node D) → slice_get new.nodes.items i ≡ Some z
-          → IsNodeOf tells past setup (cluster_after c events) (i + 1) z
+          → IsNodeOf facts setup (cluster_after c events) (i + 1) z
       nodes i z there =
           by (set-get old.nodes.items (k - 1) i y z (ap (λ (l : List (Node D)). slice_get l i) (sym ch.nodes) ∙ there))
         where
           by : ((i ≡ k - 1) × (z ≡ y)) ⊎ ((i ≢ k - 1) × (slice_get old.nodes.items i ≡ Some z))
-              → IsNodeOf tells past setup (cluster_after c events) (i + 1) z
+              → IsNodeOf facts setup (cluster_after c events) (i + 1) z
           by (inl own') =
-              subst (λ (j : ℕ). IsNodeOf tells past setup (cluster_after c events) j z)
+              subst (λ (j : ℕ). IsNodeOf facts setup (cluster_after c events) j z)
               (let low = ch.low in let is = own'.0 in let e : k ≡ i + 1 = omega (arith, low, is) in e)
-              (subst (IsNodeOf tells past setup (cluster_after c events) k) (sym own'.1) node)
+              (subst (IsNodeOf facts setup (cluster_after c events) k) (sym own'.1) node)
           by (inr other) =
               others-stay setup c k (i + 1) events z own
               (λ same. other.0 (let low = ch.low in let e : i ≡ k - 1 = omega (arith, low, same) in e))
@@ -151,30 +152,31 @@ module _ {D : Type 0} {tells : D → Bool} {past : D → List Disk} where
 
   -- ---- what a log's change says
 
-  module _ {faults : D → ℕ} (setup : Setup) (c : Cluster) (k : ℕ) (x y : Node D) (later : Lot → Parts → Parts)
-      (was : IsNodeOf tells past setup c k x) (up : c.up k ≡ true) (ch : ChangesLog tells past faults later x y) where
+  module _ (setup : Setup) (c : Cluster) (k : ℕ) (x y : Node D) (later : Lot → Parts → Parts)
+      (was : IsNodeOf facts setup c k x) (up : c.up k ≡ true) (ch : ChangesLog facts later x y) where
     same-log : was.own ≡ ch.before
     same-log = some-as was.own ch.before (sym was.log_is ∙ ch.was)
 
-    pub log-runs : IsRunningIn tells past (lot_of setup k) (parts_at c k) ch.before
-    log-runs = subst (IsRunningIn tells past (lot_of setup k) (parts_at c k)) same-log (was.log.running up)
+    pub log-runs : IsRunningIn facts (lot_of setup k) (parts_at c k) ch.before
+    log-runs = subst (IsRunningIn facts (lot_of setup k) (parts_at c k)) same-log (was.log.running up)
 
-    pub log-disk : SameDisk tells past faults (ids_of (lot_of setup k)) (disk_in ch.before) (disk_in ch.behind)
+    pub log-disk : SameDisk facts (ids_of (lot_of setup k)) (disk_in ch.before) (disk_in ch.behind)
     log-disk = ch.same (lot_of setup k) (parts_at c k) log-runs
 
-    pub log-whole : IsWhole tells past (ids_of (lot_of setup k)) (disk_in ch.behind)
+    pub log-whole : IsWhole facts (ids_of (lot_of setup k)) (disk_in ch.behind)
     log-whole =
-        log-disk.whole (subst (λ (l : NodeLog D). IsWhole tells past (ids_of (lot_of setup k)) (disk_in l)) same-log
+        log-disk.whole (subst (λ (l : NodeLog D). IsWhole facts (ids_of (lot_of setup k)) (disk_in l)) same-log
         was.log.whole)
 
-    pub log-moments : IsTrue (tells (disk_in ch.before)) → IsLinked setup c k (now (past (disk_in ch.before)))
-        → AlwaysKeeps (lot_of setup k) (later (lot_of setup k) (parts_at c k)) (past (disk_in ch.before))
-        (past (disk_in ch.behind))
+    pub log-moments : IsTrue (facts.tells (disk_in ch.before)) → IsLinked setup c k
+        (now (facts.past (disk_in ch.before)))
+        → AlwaysKeeps (lot_of setup k) (later (lot_of setup k) (parts_at c k)) (facts.past (disk_in ch.before))
+        (facts.past (disk_in ch.behind))
     log-moments told linked = ch.moments (lot_of setup k) (parts_at c k) log-runs told (linked.tied up)
 
 -- ---- what is seen of the disks
 
-module _ {D : Type 0} (tells : D → Bool) (past : D → List Disk) (faults : D → ℕ) where
+module _ {D : Type 0} (facts : DiskFacts D) where
   node-is : (k : ℕ) (nodes : List (Node D)) (x : Node D) → 0 < k → slice_get nodes (k - 1) ≡ Some x
       → node_at k nodes ≡ Some x
   node-is zero nodes x low here = absurd (omega (arith, low))
@@ -183,17 +185,16 @@ module _ {D : Type 0} (tells : D → Bool) (past : D → List Disk) (faults : D 
 
   pub seen-own : (held : Held D) (k : ℕ) (x : Node D) (log : NodeLog D) → 0 < k
       → slice_get held.nodes.items (k - 1) ≡ Some x → x.log ≡ Some log
-      → seen tells past faults held k ≡ seen_of tells past faults (disk_in log)
+      → seen facts held k ≡ seen_of facts (disk_in log)
   seen-own held k x log low here is =
-      ap (seen_in tells past faults) (node-is k held.nodes.items x low here) ∙ ap (seen_log tells past faults) is
+      ap (seen_in facts) (node-is k held.nodes.items x low here) ∙ ap (seen_log facts) is
 
   pub seen-others : (k : ℕ) (old new : Held D) (y : Node D) → 0 < k
       → new.nodes.items ≡ slice_set old.nodes.items (k - 1) y → (j : ℕ) → (j ≢ k)
-      → seen tells past faults new j ≡ seen tells past faults old j
+      → seen facts new j ≡ seen facts old j
   seen-others k old new y low is zero other = refl
   seen-others k old new y low is (suc j) other =
-      ap (λ (l : List (Node D)). seen_in tells past faults (slice_get l j)) is
-      ∙ ap (seen_in tells past faults)
+      ap (λ (l : List (Node D)). seen_in facts (slice_get l j)) is ∙ ap (seen_in facts)
       (set-other old.nodes.items (k - 1) j y (λ same. other (let e : suc j ≡ k = omega (arith, low, same) in e)))
 
   -- the node that has changed
@@ -240,30 +241,29 @@ module _ {D : Type 0} where
 
 -- ---- calls of a node's log
 
-module _ {D : Type 0} {tells : D → Bool} {past : D → List Disk} {faults : D → ℕ} (setup : Setup) (c : Cluster) (k : ℕ)
-    (events : List ClusterEvent) (old new : Held D) (x y z : Node D) (later : Lot → Parts → Parts)
+module _ {D : Type 0} {facts : DiskFacts D} (setup : Setup) (c : Cluster) (k : ℕ) (events : List ClusterEvent)
+    (old new : Held D) (x y z : Node D) (later : Lot → Parts → Parts)
     (own : AllOwn k events) (low : 0 < k) (here : slice_get old.nodes.items (k - 1) ≡ Some x)
     (nodes : new.nodes.items ≡ slice_set old.nodes.items (k - 1) z)
-    (was : IsNodeOf tells past setup c k x) (up : c.up k ≡ true) (ch : ChangesLog tells past faults later x y)
+    (was : IsNodeOf facts setup c k x) (up : c.up k ≡ true) (ch : ChangesLog facts later x y)
     (log : z.log ≡ Some ch.behind) where
-  seen-old : seen tells past faults old k ≡ seen_of tells past faults (disk_in ch.before)
-  seen-old = seen-own tells past faults old k x ch.before low here ch.was
+  seen-old : seen facts old k ≡ seen_of facts (disk_in ch.before)
+  seen-old = seen-own facts old k x ch.before low here ch.was
 
-  seen-new : seen tells past faults new k ≡ seen_of tells past faults (disk_in ch.behind)
+  seen-new : seen facts new k ≡ seen_of facts (disk_in ch.behind)
   seen-new =
-      seen-own tells past faults new k z ch.behind low
-      (ap (λ (l : List (Node D)). slice_get l (k - 1)) nodes
-      ∙ set-here tells past faults k old.nodes.items x z here) log
+      seen-own facts new k z ch.behind low (ap (λ (l : List (Node D)). slice_get l (k - 1)) nodes
+      ∙ set-here facts k old.nodes.items x z here) log
 
-  others : (j : ℕ) → (j ≢ k) → seen tells past faults new j ≡ seen tells past faults old j
-  others = seen-others tells past faults k old new z low nodes
+  others : (j : ℕ) → (j ≢ k) → seen facts new j ≡ seen facts old j
+  others = seen-others facts k old new z low nodes
 
-  told : (seen tells past faults new k).tells ≡ (seen tells past faults old k).tells
+  told : (seen facts new k).tells ≡ (seen facts old k).tells
   told =
       ap (λ (s : Seen). s.tells) seen-new ∙ (log-disk setup c k x y later was up ch).told
       ∙ sym (ap (λ (s : Seen). s.tells) seen-old)
 
-  rises : (seen tells past faults old k).faults ≤ (seen tells past faults new k).faults
+  rises : (seen facts old k).faults ≤ (seen facts new k).faults
   rises =
       let before = ap (λ (s : Seen). s.faults) seen-old in
       let behind = ap (λ (s : Seen). s.faults) seen-new in
@@ -271,35 +271,36 @@ module _ {D : Type 0} {tells : D → Bool} {past : D → List Disk} {faults : D 
       omega (arith, before, behind, more)
 
   moved : (Traced : List Disk → List Disk → Type 0)
-      → (IsTrue (tells (disk_in ch.before)) → IsLinked setup c k (now (past (disk_in ch.before)))
-      → Traced (past (disk_in ch.before)) (past (disk_in ch.behind)))
-      → IsTrue (seen tells past faults old k).tells → IsLinked setup c k (now (seen tells past faults old k).past)
-      → Traced (seen tells past faults old k).past (seen tells past faults new k).past
+      → (IsTrue (facts.tells (disk_in ch.before)) → IsLinked setup c k (now (facts.past (disk_in ch.before)))
+      → Traced (facts.past (disk_in ch.before)) (facts.past (disk_in ch.behind)))
+      → IsTrue (seen facts old k).tells → IsLinked setup c k (now (seen facts old k).past)
+      → Traced (seen facts old k).past (seen facts new k).past
   moved Traced traced =
       subst (λ (a : Seen). IsTrue a.tells → IsLinked setup c k (now a.past)
-      → Traced a.past (seen tells past faults new k).past) (sym seen-old)
-      (subst (λ (b : Seen). IsTrue (tells (disk_in ch.before))
-      → IsLinked setup c k (now (past (disk_in ch.before))) → Traced (past (disk_in ch.before)) b.past) (sym seen-new)
-      traced)
+      → Traced a.past (seen facts new k).past) (sym seen-old)
+      (subst (λ (b : Seen). IsTrue (facts.tells (disk_in ch.before))
+      → IsLinked setup c k (now (facts.past (disk_in ch.before))) → Traced (facts.past (disk_in ch.before))
+      b.past) (sym seen-new) traced)
 
   pub call-serves : (Allowed : List ClusterEvent → Type 0) (before after : Outcome)
-      → (fails_at k events ≡ true → Rose (faults (disk_in ch.before)) (faults (disk_in ch.behind))) → Allowed events
-      → Stands tells past setup new (cluster_after c events) → after ≡ outcome_after setup c events before
-      → (IsTrue (tells (disk_in ch.before)) → IsLinked setup c k (now (past (disk_in ch.before)))
-      → IsTracedAt setup c k events (past (disk_in ch.before)) (past (disk_in ch.behind)))
-      → Serves setup c Allowed (Stands tells past setup new) (seen tells past faults old) (seen tells past faults new)
-      before after
+      → (fails_at k events ≡ true → Rose (facts.faults (disk_in ch.before)) (facts.faults (disk_in ch.behind)))
+      → Allowed events
+      → Stands facts setup new (cluster_after c events) → after ≡ outcome_after setup c events before
+      → (IsTrue (facts.tells (disk_in ch.before)) → IsLinked setup c k (now (facts.past (disk_in ch.before)))
+      → IsTracedAt setup c k events (facts.past (disk_in ch.before)) (facts.past (disk_in ch.behind)))
+      → Serves setup c Allowed (Stands facts setup new) (seen facts old) (seen facts new) before after
   call-serves Allowed before after cause allowed stands says traced =
-      serves-own setup c k events (seen tells past faults old) (seen tells past faults new) own others told rises Allowed
-      (Stands tells past setup new) before after
-      (subst (λ (a : Seen). fails_at k events ≡ true → Rose a.faults (seen tells past faults new k).faults) (sym seen-old)
-      (subst (λ (b : Seen). fails_at k events ≡ true → Rose (faults (disk_in ch.before)) b.faults) (sym seen-new) cause))
-      allowed stands says
+      serves-own setup c k events (seen facts old) (seen facts new) own others told rises Allowed
+      (Stands facts setup new) before after
+      (subst (λ (a : Seen). fails_at k events ≡ true → Rose a.faults (seen facts new k).faults) (sym seen-old)
+      (subst (λ (b : Seen). fails_at k events ≡ true → Rose (facts.faults (disk_in ch.before)) b.faults)
+      (sym seen-new) cause)) allowed stands says
       (λ node. moved (λ (a b : List Disk). IsTracedAt setup c k events a b) traced)
 
-  pub call-gives_up : (IsTrue (tells (disk_in ch.before)) → IsLinked setup c k (now (past (disk_in ch.before)))
-      → IsBrokenAt setup c k events (past (disk_in ch.before)) (past (disk_in ch.behind)))
-      → GivesUp setup c (seen tells past faults old) (seen tells past faults new)
+  pub call-gives_up : (IsTrue (facts.tells (disk_in ch.before)) → IsLinked setup c k
+      (now (facts.past (disk_in ch.before)))
+      → IsBrokenAt setup c k events (facts.past (disk_in ch.before)) (facts.past (disk_in ch.behind)))
+      → GivesUp setup c (seen facts old) (seen facts new)
   call-gives_up broken =
-      gives_up-own setup c k events (seen tells past faults old) (seen tells past faults new) own others told rises
+      gives_up-own setup c k events (seen facts old) (seen facts new) own others told rises
       (λ node. moved (λ (a b : List Disk). IsBrokenAt setup c k events a b) broken)

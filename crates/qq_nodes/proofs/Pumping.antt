@@ -5,7 +5,6 @@ use Rattle.std.specs.List.{AllByRecursion, list_all, range_with_len}
 use Rattle.std.proofs.lemmas.Bool.{and_from, and_right, cases_Bool, cases_eq, eq-eqb, eqb-true, false≢true, ne_eqb, or_cases}
 use Rattle.std.proofs.lemmas.List.FromFn.{get_or-range_with_len, length-range_with_len}
 use Rattle.std.proofs.lemmas.List.Folds.{list_all_at, list_all_more}
-use Rattle.qq_disk.specs.Disk.{Disk}
 use Rattle.qq_raft_protocol.specs.Facts.{In}
 use Rattle.qq_cluster.specs.Cluster.{Cluster, ClusterEvent, SaysBusy, Setup, cluster_after}
 use Rattle.qq_cluster.specs.Laws.{CountsRise}
@@ -26,6 +25,7 @@ use Rattle.qq_nodes.proofs.Stands.{PassesQuiet, Ruling, active-end, active-more,
 use Rattle.qq_nodes.proofs.Total.{Total, total-pumps}
 use Rattle.qq_base.specs.declared.memory.Memory.{Memory}
 use Rattle.qq_base.specs.declared.memory.Memory.TheVariants.{Want}
+use Rattle.qq_disk.specs.Facts.{DiskFacts}
 use Rattle.qq_nodes.proofs.Walks.{all-get, drop-past, from-range, in-range, place-at}
 
 -- ---- tests
@@ -140,31 +140,31 @@ pub is-active : {D : Type 0} (held : Held D) (i at : ℕ) → i < length held.ac
     → is_in at held.active ≡ true
 is-active held i at lt is = ap (λ (k : ℕ). is_in k held.active) is ∙ in-list held.active i 0 lt
 
-module _ {D : Type 0} {tells : D → Bool} {past : D → List Disk} where
+module _ {D : Type 0} {facts : DiskFacts D} where
   -- the place that an active queue's index has
-  pub below-active : {held : Held D} (i at : ℕ) → CanServe tells past held → i < length held.active
+  pub below-active : {held : Held D} (i at : ℕ) → CanServe facts held → i < length held.active
       → at ≡ get_or held.active i 0 → at < length held.queues.items
   below-active {held = held} i at can lt is =
       let below = all-get (λ (k : ℕ). k < length held.queues.items) held.active i 0 can.3.within lt in
       omega (arith, below, is)
 
   pub notice-passes : (node : NodeId) (held : Held D) → IsNodeAt node held
-      → PassesQuiet tells past (λ (setup : Setup). IsNotice node.0) held
+      → PassesQuiet facts (λ (setup : Setup). IsNotice node.0) held
   notice-passes node held is setup c place r st quiet =
       notice-passes_by node.0 setup c place (length held.nodes.items) st.set_up.nodes (let low = is.0 in omega (arith, low))
       is.1 (counts-at setup c r place st.set_up.groups node.0) quiet
 
-  pub emptied-passes : (held : Held D) → PassesQuiet tells past (λ (setup : Setup). IsEmptied) held
+  pub emptied-passes : (held : Held D) → PassesQuiet facts (λ (setup : Setup). IsEmptied) held
   emptied-passes held setup c place r st quiet = emptied-passes_by setup c place quiet
 
   -- the node of an index
-  pub node-of : {held : Held D} (at : ℕ) (node : NodeId) → CanServe tells past held
-      → ((setup : Setup) (c : Cluster) → Stands tells past setup held c → node.0 ≡ at + 1) → at < length held.nodes.items
+  pub node-of : {held : Held D} (at : ℕ) (node : NodeId) → CanServe facts held
+      → ((setup : Setup) (c : Cluster) → Stands facts setup held c → node.0 ≡ at + 1) → at < length held.nodes.items
       → IsNodeAt node held
   node-of at node can is lt = let own = is can.0 can.1 can.3 in (omega (arith, own), omega (arith, own, lt))
 
   -- where all active queues are quiet nothing is to be done, and where one isn't something is
-  pub idle-all : (held : Held D) (n : ℕ) (setup : Setup) (c : Cluster) → Stands tells past setup held c
+  pub idle-all : (held : Held D) (n : ℕ) (setup : Setup) (c : Cluster) → Stands facts setup held c
       → length held.active ≤ n
       → ((i : ℕ) → i < n → is_quiet setup c.up (c.queue (get_or held.active i 0 + 1)) ≡ true)
       → true ≡ is_idle setup c
@@ -191,18 +191,18 @@ module _ {D : Type 0} {tells : D → Bool} {past : D → List Disk} where
             | inr not' ↦ st.quiet (place - 1) (omega (arith, bounds.0, bounds.1)) not'
           ])
 
-  pub idle-none : (held : Held D) (at : ℕ) (setup : Setup) (c : Cluster) → Stands tells past setup held c
+  pub idle-none : (held : Held D) (at : ℕ) (setup : Setup) (c : Cluster) → Stands facts setup held c
       → at < length held.queues.items → false ≡ is_quiet setup c.up (c.queue (at + 1)) → false ≡ is_idle setup c
   idle-none held at setup c st lt busy =
       sym (idle-not setup c (at + 1)
       (subst (In (at + 1)) (sym st.set_up.places) (in-range (length held.queues.items) at lt)) (sym busy))
 
-module _ {D : Type 0} {tells : D → Bool} {past : D → List Disk} {faults : D → ℕ} where
+module _ {D : Type 0} {facts : DiskFacts D} where
   -- ---- what holds whatever was served
 
   -- there are as many queues and nodes
-  pub many-after : {Rule : Ruling} {old new : Held D} {before later : Outcome} → CanServe tells past old
-      → Served tells past faults Rule old new before later
+  pub many-after : {Rule : Ruling} {old new : Held D} {before later : Outcome} → CanServe facts old
+      → Served facts Rule old new before later
       → (length new.queues.items ≡ length old.queues.items) × (length new.nodes.items ≡ length old.nodes.items)
   many-after {old = old} {new = new} can served =
       let s = served.serves can.0 can.1 can.2 can.3 in
@@ -213,22 +213,19 @@ module _ {D : Type 0} {tells : D → Bool} {past : D → List Disk} {faults : D 
       )
 
   pub node-after : {Rule : Ruling} {old new : Held D} {before later : Outcome} (node : NodeId)
-      → CanServe tells past old → Served tells past faults Rule old new before later → IsNodeAt node old
-      → IsNodeAt node new
+      → CanServe facts old → Served facts Rule old new before later → IsNodeAt node old → IsNodeAt node new
   node-after node can served is = let many = (many-after can served).1 in (is.0, omega (arith, many, is.1))
 
   -- ---- walks over the active places
 
   -- one active place more
   pub walk-more : (Each : Setup → ℕ → Cluster → List ClusterEvent → Type 0) {old mid new : Held D}
-      {before middle later : Outcome} (i at : ℕ) → CanServe tells past old → AreRising old.active
+      {before middle later : Outcome} (i at : ℕ) → CanServe facts old → AreRising old.active
       → mid.active ≡ old.active → new.active ≡ mid.active → i < length old.active → at ≡ get_or mid.active i 0
-      → PassesQuiet tells past Each new
-      → Served tells past faults (LeadsIn places_in (get_or mid.active i (length mid.queues.items)) Each) old mid before
-      middle
-      → Served tells past faults (λ setup. Each setup (at + 1)) mid new middle later
-      → Served tells past faults (LeadsIn places_in (get_or new.active (i + 1) (length new.queues.items)) Each) old new
-      before later
+      → PassesQuiet facts Each new
+      → Served facts (LeadsIn places_in (get_or mid.active i (length mid.queues.items)) Each) old mid before middle
+      → Served facts (λ setup. Each setup (at + 1)) mid new middle later
+      → Served facts (LeadsIn places_in (get_or new.active (i + 1) (length new.queues.items)) Each) old new before later
   walk-more Each {old = old} {mid = mid} {new = new} i at can rising so same lt is passes first second =
       let now = can-after can first in
       let small : i < length mid.active = (let e = ap length so in omega (arith, e, lt)) in
@@ -237,19 +234,18 @@ module _ {D : Type 0} {tells : D → Bool} {past : D → List Disk} {faults : D 
 
   pub walk-end : (Each : Setup → ℕ → Cluster → List ClusterEvent → Type 0) {old new : Held D} {before later : Outcome}
       (i : ℕ) → new.active ≡ old.active → length old.active ≤ i
-      → Served tells past faults (LeadsIn places_in (get_or new.active i (length new.queues.items)) Each) old new before
-      later
-      → Served tells past faults (λ setup. ForEach setup.places (Each setup)) old new before later
+      → Served facts (LeadsIn places_in (get_or new.active i (length new.queues.items)) Each) old new before later
+      → Served facts (λ setup. ForEach setup.places (Each setup)) old new before later
   walk-end Each i same le served = active-end Each i (let e = ap length same in omega (arith, e, le)) served
 
   -- ---- loops over the nodes
 
   pub nodes-more : (Each : Setup → ℕ → Cluster → List ClusterEvent → Type 0) {old mid new : Held D}
-      {before middle later : Outcome} (at : ℕ) (node : NodeId) → CanServe tells past mid
-      → ((setup : Setup) (c : Cluster) → Stands tells past setup mid c → node.0 ≡ at + 1) → at < length mid.nodes.items
-      → Served tells past faults (LeadsIn nodes_in at Each) old mid before middle
-      → Served tells past faults (λ setup. Each setup node.0) mid new middle later
-      → Served tells past faults (LeadsIn nodes_in (at + 1) Each) old new before later
+      {before middle later : Outcome} (at : ℕ) (node : NodeId) → CanServe facts mid
+      → ((setup : Setup) (c : Cluster) → Stands facts setup mid c → node.0 ≡ at + 1) → at < length mid.nodes.items
+      → Served facts (LeadsIn nodes_in at Each) old mid before middle
+      → Served facts (λ setup. Each setup node.0) mid new middle later
+      → Served facts (LeadsIn nodes_in (at + 1) Each) old new before later
   nodes-more Each {mid = mid} at node can is lt first second =
       each-more nodes_in Each at node.0
       (λ setup c st. subst (λ (k : ℕ). drop at setup.nodes ≡ k ∷ drop (at + 1) setup.nodes) (sym (is setup c st))
@@ -257,27 +253,27 @@ module _ {D : Type 0} {tells : D → Bool} {past : D → List Disk} {faults : D 
 
   pub nodes-end : (Each : Setup → ℕ → Cluster → List ClusterEvent → Type 0) {old new : Held D} {before later : Outcome}
       (at : ℕ) → length new.nodes.items ≤ at
-      → Served tells past faults (LeadsIn nodes_in at Each) old new before later
-      → Served tells past faults (λ setup. ForEach setup.nodes (Each setup)) old new before later
+      → Served facts (LeadsIn nodes_in at Each) old new before later
+      → Served facts (λ setup. ForEach setup.nodes (Each setup)) old new before later
   nodes-end Each {new = new} at le served =
       each-end nodes_in Each at (λ setup c st. drop-past setup.nodes at (let e = ap length st.set_up.nodes in let long = length-range_with_len 1 (length new.nodes.items) in omega (arith, e, long, le))) served
 
   -- ---- notices
 
   pub notices-nothing : (k at : ℕ) (held : Held D) (outcome : Outcome)
-      → ((setup : Setup) (c : Cluster) → IsReached setup c → Stands tells past setup held c
+      → ((setup : Setup) (c : Cluster) → IsReached setup c → Stands facts setup held c
       → (c.up k && waits_noticed k (c.queue (at + 1))) ≡ false)
-      → Served tells past faults (λ setup. IsNotice k (at + 1)) held held outcome outcome
+      → Served facts (λ setup. IsNotice k (at + 1)) held held outcome outcome
   notices-nothing k at held outcome none =
       served-nothing held outcome
       (λ setup c r st. rule-else (c.up k && waits_noticed k (c.queue (at + 1))) (Tells (at + 1) (Notices k)) IsNothing
       c [] (none setup c r st) refl)
 
   pub notices : (k at : ℕ) {old new : Held D} {before later : Outcome}
-      → ((setup : Setup) (c : Cluster) → IsReached setup c → Stands tells past setup old c
+      → ((setup : Setup) (c : Cluster) → IsReached setup c → Stands facts setup old c
       → (c.up k && waits_noticed k (c.queue (at + 1))) ≡ true)
-      → Served tells past faults (λ setup. Tells (at + 1) (Notices k)) old new before later
-      → Served tells past faults (λ setup. IsNotice k (at + 1)) old new before later
+      → Served facts (λ setup. Tells (at + 1) (Notices k)) old new before later
+      → Served facts (λ setup. IsNotice k (at + 1)) old new before later
   notices k at some served =
       served-weaker served
       (λ setup c events r st allowed. rule-if (c.up k && waits_noticed k (c.queue (at + 1)))
@@ -289,14 +285,14 @@ module _ {D : Type 0} {tells : D → Bool} {past : D → List Disk} {faults : D 
   pub served-dropped : (place at : ℕ) (old new : Held D) (outcome : Outcome)
       → new ≡ record old { active = new.active } → new.active ≡ remove old.active place
       → at ≡ get_or old.active place 0
-      → ((setup : Setup) (c : Cluster) → IsReached setup c → Stands tells past setup old c
+      → ((setup : Setup) (c : Cluster) → IsReached setup c → Stands facts setup old c
       → is_quiet setup c.up (c.queue (at + 1)) ≡ true)
-      → Served tells past faults (λ setup. IsNothing) old new outcome outcome
+      → Served facts (λ setup. IsNothing) old new outcome outcome
   served-dropped place at old new outcome same active is quiet =
       served-still old new outcome (ap (λ (h : Held D). h.nodes) same)
       (λ setup c r st. (
         refl,
-        subst (λ (h : Held D). Stands tells past setup h c) (sym same) (record {
+        subst (λ (h : Held D). Stands facts setup h c) (sym same) (record {
           set_up = st.set_up;
           queues = st.queues;
           nodes = st.nodes;
@@ -314,16 +310,14 @@ module _ {D : Type 0} {tells : D → Bool} {past : D → List Disk} {faults : D 
   -- ---- pumps
 
   pub pump-start : (held : Held D) (outcome : Outcome)
-      → Served tells past faults (PumpLeads most_rounds) held held outcome outcome
+      → Served facts (PumpLeads most_rounds) held held outcome outcome
   pump-start held outcome = served-nothing held outcome (λ setup c r st. leads-start (IsPump setup) c)
 
   -- a round more
   pub pump-more : (left : ℕ) {old mid new : Held D} {before middle later : Outcome}
-      → Served tells past faults (PumpLeads (suc left)) old mid before middle
-      → ((setup : Setup) (c : Cluster) → IsReached setup c → Stands tells past setup mid c
-      → false ≡ is_idle setup c)
-      → Served tells past faults IsRound mid new middle later
-      → Served tells past faults (PumpLeads left) old new before later
+      → Served facts (PumpLeads (suc left)) old mid before middle
+      → ((setup : Setup) (c : Cluster) → IsReached setup c → Stands facts setup mid c → false ≡ is_idle setup c)
+      → Served facts IsRound mid new middle later → Served facts (PumpLeads left) old new before later
   pump-more left {mid = mid} first busy second =
       served-both {Second = Goes} first
       (served-weaker second (λ setup c events r st allowed. (allowed, busy setup c r st)))
@@ -344,10 +338,9 @@ module _ {D : Type 0} {tells : D → Bool} {past : D → List Disk} {faults : D 
 
   -- nothing is left to do
   pub pump-idle : (left : ℕ) {old new : Held D} {before later : Outcome}
-      → Served tells past faults (PumpLeads left) old new before later
-      → ((setup : Setup) (c : Cluster) → IsReached setup c → Stands tells past setup new c
-      → true ≡ is_idle setup c)
-      → Served tells past faults IsPump old new before later
+      → Served facts (PumpLeads left) old new before later
+      → ((setup : Setup) (c : Cluster) → IsReached setup c → Stands facts setup new c → true ≡ is_idle setup c)
+      → Served facts IsPump old new before later
   pump-idle left {old = old} {new = new} {before = before} {later = later} first idle = record {
     serves = λ setup c r st. (let s = first.serves setup c r st in
         serves-means s (subst (IsPump setup c) (append-nil s.did.events)
@@ -357,11 +350,9 @@ module _ {D : Type 0} {tells : D → Bool} {past : D → List Disk} {faults : D 
 
   -- all rounds are made, and work is left
   pub pump-busy : {old mid new : Held D} {before middle later : Outcome}
-      → Served tells past faults (PumpLeads 0) old mid before middle
-      → ((setup : Setup) (c : Cluster) → IsReached setup c → Stands tells past setup mid c
-      → false ≡ is_idle setup c)
-      → Served tells past faults (λ setup. Is SaysBusy) mid new middle later
-      → Served tells past faults IsPump old new before later
+      → Served facts (PumpLeads 0) old mid before middle
+      → ((setup : Setup) (c : Cluster) → IsReached setup c → Stands facts setup mid c → false ≡ is_idle setup c)
+      → Served facts (λ setup. Is SaysBusy) mid new middle later → Served facts IsPump old new before later
   pump-busy first busy second =
       served-both {Second = λ setup. Pumps 0 setup} first
       (served-weaker second
@@ -371,13 +362,13 @@ module _ {D : Type 0} {tells : D → Bool} {past : D → List Disk} {faults : D 
 
   -- a pump is to be asked for
   pub not-pumped : (held : Held D) (outcome : Outcome) → held.auto ≡ false
-      → Served tells past faults IsPumped held held outcome outcome
+      → Served facts IsPumped held held outcome outcome
   not-pumped held outcome off =
       served-nothing held outcome
       (λ setup c r st. rule-else c.auto (IsPump setup) IsNothing c [] (sym st.auto ∙ off) refl)
 
   pub is-pumped : {old new : Held D} {before later : Outcome} → old.auto ≡ true
-      → Served tells past faults IsPump old new before later → Served tells past faults IsPumped old new before later
+      → Served facts IsPump old new before later → Served facts IsPumped old new before later
   is-pumped on served =
       served-weaker served
       (λ setup c events r st allowed. rule-if c.auto (IsPump setup) IsNothing c events (sym st.auto ∙ on) allowed)
@@ -387,11 +378,10 @@ module _ {D : Type 0} {tells : D → Bool} {past : D → List Disk} {faults : D 
   -- at an active place
   pub walk-gave_up : (Each : Setup → ℕ → Cluster → List ClusterEvent → Type 0) {old mid new : Held D}
       {before middle : Outcome} {memory : Memory} (i at : ℕ) → ((setup : Setup) (place : ℕ) → Total (Each setup place))
-      → CanServe tells past old → mid.active ≡ old.active → i < length old.active → at ≡ get_or mid.active i 0
-      → Served tells past faults (LeadsIn places_in (get_or mid.active i (length mid.queues.items)) Each) old mid before
-      middle
-      → GaveUp tells past faults (λ setup. Each setup (at + 1)) mid new memory
-      → GaveUp tells past faults (λ setup. ForEach setup.places (Each setup)) old new memory
+      → CanServe facts old → mid.active ≡ old.active → i < length old.active → at ≡ get_or mid.active i 0
+      → Served facts (LeadsIn places_in (get_or mid.active i (length mid.queues.items)) Each) old mid before middle
+      → GaveUp facts (λ setup. Each setup (at + 1)) mid new memory
+      → GaveUp facts (λ setup. ForEach setup.places (Each setup)) old new memory
   walk-gave_up Each {old = old} {mid = mid} {before = before} {middle = middle} i at total can so lt is first second =
       let now = can-after can first in
       let small : i < length mid.active = (let e = ap length so in omega (arith, e, lt)) in
@@ -401,36 +391,34 @@ module _ {D : Type 0} {tells : D → Bool} {past : D → List Disk} {faults : D 
       (λ setup c st. place-at setup.places (length mid.queues.items) at st.set_up.places
       (let below = all-get (λ (x : ℕ). x < length mid.queues.items) mid.active i (length mid.queues.items) now.3.within small in
       omega (arith, below, here)))
-      (subst (λ (k : ℕ). Served tells past faults (LeadsIn places_in k Each) old mid before middle) (sym here) first)
-      second
+      (subst (λ (k : ℕ). Served facts (LeadsIn places_in k Each) old mid before middle) (sym here) first) second
 
   pub nodes-gave_up : (Each : Setup → ℕ → Cluster → List ClusterEvent → Type 0) {old mid new : Held D}
       {before middle : Outcome} {memory : Memory} (at : ℕ) (node : NodeId)
       → ((setup : Setup) (k : ℕ) → Total (Each setup k))
-      → ((setup : Setup) (c : Cluster) → Stands tells past setup mid c → node.0 ≡ at + 1) → at < length mid.nodes.items
-      → Served tells past faults (LeadsIn nodes_in at Each) old mid before middle
-      → GaveUp tells past faults (λ setup. Each setup node.0) mid new memory
-      → GaveUp tells past faults (λ setup. ForEach setup.nodes (Each setup)) old new memory
+      → ((setup : Setup) (c : Cluster) → Stands facts setup mid c → node.0 ≡ at + 1) → at < length mid.nodes.items
+      → Served facts (LeadsIn nodes_in at Each) old mid before middle
+      → GaveUp facts (λ setup. Each setup node.0) mid new memory
+      → GaveUp facts (λ setup. ForEach setup.nodes (Each setup)) old new memory
   nodes-gave_up Each {mid = mid} at node total is lt first second =
       gave_up-each nodes_in Each at node.0 total
       (λ setup c st. subst (λ (k : ℕ). drop at setup.nodes ≡ k ∷ drop (at + 1) setup.nodes) (sym (is setup c st))
       (place-at setup.nodes (length mid.nodes.items) at st.set_up.nodes lt)) first second
 
   pub notice-gave_up : (k at : ℕ) {old new : Held D} {memory : Memory}
-      → ((setup : Setup) (c : Cluster) → IsReached setup c → Stands tells past setup old c
+      → ((setup : Setup) (c : Cluster) → IsReached setup c → Stands facts setup old c
       → (c.up k && waits_noticed k (c.queue (at + 1))) ≡ true)
-      → GaveUp tells past faults (λ setup. Tells (at + 1) (Notices k)) old new memory
-      → GaveUp tells past faults (λ setup. IsNotice k (at + 1)) old new memory
+      → GaveUp facts (λ setup. Tells (at + 1) (Notices k)) old new memory
+      → GaveUp facts (λ setup. IsNotice k (at + 1)) old new memory
   notice-gave_up k at some given =
       gave_up-weaker
       (λ setup c events r st allowed. rule-if (c.up k && waits_noticed k (c.queue (at + 1)))
       (Tells (at + 1) (Notices k)) IsNothing c events (some setup c r st) allowed) given
 
   pub pump-gave_up : (left : ℕ) {old mid new : Held D} {before middle : Outcome} {memory : Memory}
-      → Served tells past faults (PumpLeads (suc left)) old mid before middle
-      → ((setup : Setup) (c : Cluster) → IsReached setup c → Stands tells past setup mid c
-      → false ≡ is_idle setup c)
-      → GaveUp tells past faults IsRound mid new memory → GaveUp tells past faults IsPump old new memory
+      → Served facts (PumpLeads (suc left)) old mid before middle
+      → ((setup : Setup) (c : Cluster) → IsReached setup c → Stands facts setup mid c → false ≡ is_idle setup c)
+      → GaveUp facts IsRound mid new memory → GaveUp facts IsPump old new memory
   pump-gave_up left first busy second =
       gave_up-leads {Rest = Pumps (suc left)} {Whole = IsPump} first
       (gave_up-weaker {First = λ setup. Then (IsRound setup) (Pumps left setup)} {Whole = Pumps (suc left)}
@@ -440,13 +428,13 @@ module _ {D : Type 0} {tells : D → Bool} {past : D → List Disk} {faults : D 
 
   -- for want of memory
   pub pump-wants : (left : ℕ) {old mid new : Held D} {before middle : Outcome} {memory : Memory}
-      → Served tells past faults (PumpLeads left) old mid before middle → new.nodes ≡ mid.nodes → memory ≡ Want
-      → GaveUp tells past faults IsPump old new memory
+      → Served facts (PumpLeads left) old mid before middle → new.nodes ≡ mid.nodes → memory ≡ Want
+      → GaveUp facts IsPump old new memory
   pump-wants left {mid = mid} {new = new} {memory = memory} first nodes want =
       gave_up-leads {Rest = Pumps left} {Whole = IsPump} first (gave_up-same mid new memory nodes want)
 
   pub pumped-gave_up : {old new : Held D} {memory : Memory} → old.auto ≡ true
-      → GaveUp tells past faults IsPump old new memory → GaveUp tells past faults IsPumped old new memory
+      → GaveUp facts IsPump old new memory → GaveUp facts IsPumped old new memory
   pumped-gave_up on given =
       gave_up-weaker {First = IsPump} {Whole = IsPumped}
       (λ setup c events r st allowed. rule-if c.auto (IsPump setup) IsNothing c events (sym st.auto ∙ on) allowed) given

@@ -1,11 +1,11 @@
 -- What a queue refuses is refused for want of memory, or a number of it stands at its end.
-use Rattle.std.proofs.Common.{◌≡◌, ◌⊎◌, ◌<◌, ◌≤◌, ◌+◌, ℕ, Bool, List, [], ◌∷◌, Option, Some, None, get_or, length, refl, subst, inl, inr, arith}
+use Rattle.std.proofs.Common.{◌≡◌, ◌⊎◌, ◌<◌, ◌≤◌, ◌+◌, ℕ, List, [], ◌∷◌, Option, Some, None, get_or, length, refl, subst, inl, inr, arith}
 use Rattle.std.proofs.lemmas.Option.{slice_get-get_or}
 use Rattle.qq_base.specs.declared.ids.NodeId.{NodeId}
 use Rattle.qq_base.specs.declared.memory.Memory.{Memory}
 use Rattle.qq_base.specs.declared.memory.Memory.TheVariants.{Spent, Want}
 use Rattle.qq_base.specs.declared.memory.TheConstants.{NUMBER_END}
-use Rattle.qq_disk.specs.Disk.{Disk}
+use Rattle.qq_disk.specs.Facts.{DiskFacts}
 use Rattle.qq_base.specs.Ids.{client}
 use Rattle.qq_entry.specs.declared.command.Command.{Command}
 use Rattle.qq_entry.specs.declared.command.Command.TheVariants.{Down as DownOf}
@@ -78,14 +78,14 @@ pub refused-at : (ask : Ask) (at : ℕ) (queues : List ClusterQueue) (d : Cluste
 refused-at ask at queues d e lt caused =
     record { queue = get_or queues at d; here = slice_get-get_or queues at d lt; caused = caused }
 
-module _ {D : Type 0} {tells : D → Bool} {past : D → List Disk} {faults : D → ℕ} where
+module _ {D : Type 0} {facts : DiskFacts D} where
   -- then the call is given up, before anything has happened
   pub gave_up-refused : StepEnds → (at : ℕ) (ask : Ask) (old new : Held D) (memory : Memory)
       → new.nodes ≡ old.nodes → IsRefusedAt ask at old.queues.items memory
-      → GaveUp tells past faults (λ setup. Is (At (at + 1) (asked ask))) old new memory
+      → GaveUp facts (λ setup. Is (At (at + 1) (asked ask))) old new memory
   gave_up-refused steps at ask old new memory nodes refused = record {
-    gives_up = λ setup c r st. subst (λ (b : ℕ → Seen). GivesUp setup c (seen tells past faults old) b)
-        (same-seen tells past faults old new nodes) (gives_up-same setup c (seen tells past faults old));
+    gives_up = λ setup c r st. subst (λ (b : ℕ → Seen). GivesUp setup c (seen facts old) b)
+        (same-seen facts old new nodes) (gives_up-same setup c (seen facts old));
     logs = λ setup c r st. same-logs setup old.nodes new.nodes nodes (stands-logs setup old c st);
     spent = λ number is setup c r st.
         (let caused : IsAskCaused ask refused.queue (Spent number) =

@@ -6,7 +6,7 @@ use Rattle.std.proofs.lemmas.Bool.{or_from}
 use Rattle.qq_base.specs.declared.ids.QueueId.{QueueId}
 use Rattle.qq_base.specs.declared.memory.Memory.{Memory}
 use Rattle.qq_base.specs.declared.memory.Memory.TheVariants.{Want}
-use Rattle.qq_disk.specs.Disk.{Disk}
+use Rattle.qq_disk.specs.Facts.{DiskFacts}
 use Rattle.qq_entry.specs.declared.command.Unstamped.{Unstamped}
 use Rattle.qq_cluster.specs.Cluster.{At, Cluster, ClusterEvent, SaysEnded, SaysUnroutable, Setup}
 use Rattle.qq_cluster.specs.Lines.{IsRouted}
@@ -53,8 +53,8 @@ routed-none : (session : ℕ) (body : Unstamped) (places : List ℕ) (c : Cluste
 routed-none session body [] c events none said = said
 routed-none session body (place ∷ places) c events none said = absurd (omega (arith, none))
 
-module _ {D : Type 0} {tells : D → Bool} {past : D → List Disk} where
-  ended-places : (setup : Setup) (c : Cluster) (held : Held D) (session : ℕ) (b : Bool) → Stands tells past setup held c
+module _ {D : Type 0} {facts : DiskFacts D} where
+  ended-places : (setup : Setup) (c : Cluster) (held : Held D) (session : ℕ) (b : Bool) → Stands facts setup held c
       → (standings held.sessions session).ended ≡ b → (a n : ℕ) → a + n ≤ length held.queues.items
       → (n ≡ 0 → b ≡ false)
       → list_any (λ (place : ℕ). is_ended session (c.queue place)) (range_with_len (a + 1) n) ≡ b
@@ -68,17 +68,17 @@ module _ {D : Type 0} {tells : D → Bool} {past : D → List Disk} where
       (ended-at setup c held a session st (omega (arith, within)) ∙ is)
       (ended-places setup c held session false st is (a + 1) n (omega (arith, within)) (λ e. refl))
 
-  some-ended : (setup : Setup) (c : Cluster) (held : Held D) (session : ℕ) (b : Bool) → Stands tells past setup held c
+  some-ended : (setup : Setup) (c : Cluster) (held : Held D) (session : ℕ) (b : Bool) → Stands facts setup held c
       → (standings held.sessions session).ended ≡ b → (length held.queues.items ≡ 0 → b ≡ false)
       → some_queue setup (is_ended session) c ≡ b
   some-ended setup c held session b st is none =
       ap (list_any (λ (place : ℕ). is_ended session (c.queue place))) st.set_up.places
       ∙ ended-places setup c held session b st is 0 (length held.queues.items) (omega arith) none
 
-module _ {D : Type 0} {tells : D → Bool} {past : D → List Disk} {faults : D → ℕ} where
+module _ {D : Type 0} {facts : DiskFacts D} where
   -- the queues are there still
   pub queues-after : {Rule : Setup → Cluster → List ClusterEvent → Type 0} {old new : Held D} {before later : Outcome}
-      (queues : List QueueId) → CanServe tells past old → Served tells past faults Rule old new before later
+      (queues : List QueueId) → CanServe facts old → Served facts Rule old new before later
       → All (λ (queue : QueueId). IsQueueAt queue old) queues → All (λ (queue : QueueId). IsQueueAt queue new) queues
   queues-after queues can served all k d lt =
       let is = all k d lt in
@@ -86,15 +86,15 @@ module _ {D : Type 0} {tells : D → Bool} {past : D → List Disk} {faults : D 
       (is.0, (let le = is.1 in omega (arith, le, many)))
 
   pub gives-none : (session : ℕ) (body : Unstamped) (places : List ℕ) (held : Held D) (outcome : Outcome)
-      → Served tells past faults (GivesTo session body places 0) held held outcome outcome
+      → Served facts (GivesTo session body places 0) held held outcome outcome
   gives-none session body places held outcome =
       each-start (λ setup. places) (λ setup. IsGiven session body) held outcome
 
   pub gives-more : (session : ℕ) (body : Unstamped) (queues : List QueueId) (at : ℕ) (queue : QueueId)
       {old mid new : Held D} {before middle later : Outcome} → slice_get queues at ≡ Some queue → 0 < queue.0
-      → Served tells past faults (GivesTo session body (numbers_of queues) at) old mid before middle
-      → Served tells past faults (λ setup. IsGiven session body ((queue.0 - 1) + 1)) mid new middle later
-      → Served tells past faults (GivesTo session body (numbers_of queues) (at + 1)) old new before later
+      → Served facts (GivesTo session body (numbers_of queues) at) old mid before middle
+      → Served facts (λ setup. IsGiven session body ((queue.0 - 1) + 1)) mid new middle later
+      → Served facts (GivesTo session body (numbers_of queues) (at + 1)) old new before later
   gives-more session body queues at queue here low first second =
       each-more (λ setup. numbers_of queues) (λ setup. IsGiven session body) at queue.0
       (λ setup c st. drop-here queues at queue here) first
@@ -103,21 +103,21 @@ module _ {D : Type 0} {tells : D → Bool} {past : D → List Disk} {faults : D 
   -- a copy of it
   pub gives-copy : (session : ℕ) (own body : Unstamped) (queues : List QueueId) (at : ℕ) (queue : QueueId)
       {old mid new : Held D} {before middle later : Outcome} → own ≡ body → slice_get queues at ≡ Some queue → 0 < queue.0
-      → Served tells past faults (GivesTo session body (numbers_of queues) at) old mid before middle
-      → Served tells past faults (λ setup. IsGiven session own ((queue.0 - 1) + 1)) mid new middle later
-      → Served tells past faults (GivesTo session body (numbers_of queues) (at + 1)) old new before later
+      → Served facts (GivesTo session body (numbers_of queues) at) old mid before middle
+      → Served facts (λ setup. IsGiven session own ((queue.0 - 1) + 1)) mid new middle later
+      → Served facts (GivesTo session body (numbers_of queues) (at + 1)) old new before later
   gives-copy session own body queues at queue {mid = mid} {new = new} {middle = middle} {later = later} same here low first second =
       gives-more session body queues at queue here low first
-      (subst (λ (b : Unstamped). Served tells past faults (λ setup. IsGiven session b ((queue.0 - 1) + 1)) mid new middle later)
+      (subst (λ (b : Unstamped). Served facts (λ setup. IsGiven session b ((queue.0 - 1) + 1)) mid new middle later)
       same second)
 
   -- all of them
   pub gives-all : (session : ℕ) (body : Unstamped) (queues : List QueueId) (at : ℕ) (queue : QueueId)
       {old mid new : Held D} {before middle later : Outcome} → slice_get queues at ≡ Some queue → 0 < queue.0
       → length queues ≤ at + 1
-      → Served tells past faults (GivesTo session body (numbers_of queues) at) old mid before middle
-      → Served tells past faults (λ setup. IsGiven session body ((queue.0 - 1) + 1)) mid new middle later
-      → Served tells past faults (λ setup. IsRouted session body (numbers_of queues)) old new before later
+      → Served facts (GivesTo session body (numbers_of queues) at) old mid before middle
+      → Served facts (λ setup. IsGiven session body ((queue.0 - 1) + 1)) mid new middle later
+      → Served facts (λ setup. IsRouted session body (numbers_of queues)) old new before later
   gives-all session body queues at queue here low le first second =
       served-weaker
       (each-end (λ setup. numbers_of queues) (λ setup. IsGiven session body) (at + 1)
@@ -128,8 +128,8 @@ module _ {D : Type 0} {tells : D → Bool} {past : D → List Disk} {faults : D 
       (let lt = within-length queues at queue here in let long = long-numbers queues in omega (arith, lt, long)) given)
 
   pub unrouted : (session : ℕ) (body : Unstamped) (queues : List QueueId) {old new : Held D} {before later : Outcome}
-      → length queues ≡ 0 → Served tells past faults (λ setup. Is SaysUnroutable) old new before later
-      → Served tells past faults (λ setup. IsRouted session body (numbers_of queues)) old new before later
+      → length queues ≡ 0 → Served facts (λ setup. Is SaysUnroutable) old new before later
+      → Served facts (λ setup. IsRouted session body (numbers_of queues)) old new before later
   unrouted session body queues none served =
       served-weaker served
       (λ setup c events r st said. routed-none session body (numbers_of queues) c events (long-numbers queues ∙ none) said)
@@ -138,9 +138,9 @@ module _ {D : Type 0} {tells : D → Bool} {past : D → List Disk} {faults : D 
 
   pub gives-gave_up : (session : ℕ) (body : Unstamped) (queues : List QueueId) (at : ℕ) (queue : QueueId)
       {old mid new : Held D} {before middle : Outcome} {memory : Memory} → slice_get queues at ≡ Some queue
-      → 0 < queue.0 → Served tells past faults (GivesTo session body (numbers_of queues) at) old mid before middle
-      → GaveUp tells past faults (λ setup. IsGiven session body ((queue.0 - 1) + 1)) mid new memory
-      → GaveUp tells past faults (λ setup. ForEach (numbers_of queues) (IsGiven session body)) old new memory
+      → 0 < queue.0 → Served facts (GivesTo session body (numbers_of queues) at) old mid before middle
+      → GaveUp facts (λ setup. IsGiven session body ((queue.0 - 1) + 1)) mid new memory
+      → GaveUp facts (λ setup. ForEach (numbers_of queues) (IsGiven session body)) old new memory
   gives-gave_up session body queues at queue here low first second =
       gave_up-each (λ setup. numbers_of queues) (λ setup. IsGiven session body) at queue.0
       (λ setup place. total-given session body place) (λ setup c st. drop-here queues at queue here) first
@@ -148,26 +148,26 @@ module _ {D : Type 0} {tells : D → Bool} {past : D → List Disk} {faults : D 
 
   pub gives-copy_gave_up : (session : ℕ) (own body : Unstamped) (queues : List QueueId) (at : ℕ) (queue : QueueId)
       {old mid new : Held D} {before middle : Outcome} {memory : Memory} → own ≡ body → slice_get queues at ≡ Some queue
-      → 0 < queue.0 → Served tells past faults (GivesTo session body (numbers_of queues) at) old mid before middle
-      → GaveUp tells past faults (λ setup. IsGiven session own ((queue.0 - 1) + 1)) mid new memory
-      → GaveUp tells past faults (λ setup. ForEach (numbers_of queues) (IsGiven session body)) old new memory
+      → 0 < queue.0 → Served facts (GivesTo session body (numbers_of queues) at) old mid before middle
+      → GaveUp facts (λ setup. IsGiven session own ((queue.0 - 1) + 1)) mid new memory
+      → GaveUp facts (λ setup. ForEach (numbers_of queues) (IsGiven session body)) old new memory
   gives-copy_gave_up session own body queues at queue {mid = mid} {new = new} {memory = memory} same here low first second =
       gives-gave_up session body queues at queue here low first
-      (subst (λ (b : Unstamped). GaveUp tells past faults (λ setup. IsGiven session b ((queue.0 - 1) + 1)) mid new memory)
+      (subst (λ (b : Unstamped). GaveUp facts (λ setup. IsGiven session b ((queue.0 - 1) + 1)) mid new memory)
       same second)
 
   pub gives-wants : (session : ℕ) (body : Unstamped) (places : List ℕ) (at : ℕ) {old mid new : Held D}
       {before middle : Outcome} {memory : Memory} → new.nodes ≡ mid.nodes → memory ≡ Want
-      → Served tells past faults (GivesTo session body places at) old mid before middle
-      → GaveUp tells past faults (λ setup. ForEach places (IsGiven session body)) old new memory
+      → Served facts (GivesTo session body places at) old mid before middle
+      → GaveUp facts (λ setup. ForEach places (IsGiven session body)) old new memory
   gives-wants session body places at {mid = mid} {new = new} {memory = memory} nodes want first =
       gave_up-leads {Rest = λ setup. ForEach (drop at places) (IsGiven session body)}
       {Whole = λ setup. ForEach places (IsGiven session body)} first (gave_up-same mid new memory nodes want)
 
   pub routed-gave_up : (session : ℕ) (body : Unstamped) (queues : List QueueId) {old new : Held D} {memory : Memory}
       → 0 < length queues
-      → GaveUp tells past faults (λ setup. ForEach (numbers_of queues) (IsGiven session body)) old new memory
-      → GaveUp tells past faults (λ setup. IsRouted session body (numbers_of queues)) old new memory
+      → GaveUp facts (λ setup. ForEach (numbers_of queues) (IsGiven session body)) old new memory
+      → GaveUp facts (λ setup. IsRouted session body (numbers_of queues)) old new memory
   routed-gave_up session body queues some given =
       gave_up-weaker
       (λ setup c events r st allowed. routed-some session body (numbers_of queues) c events
@@ -177,7 +177,7 @@ module _ {D : Type 0} {tells : D → Bool} {past : D → List Disk} {faults : D 
 
   -- there is no queue
   pub resends-none : (session : ℕ) (held : Held D) (outcome : Outcome) → length held.queues.items ≡ 0
-      → Served tells past faults (λ setup. IsResend setup session) held held outcome outcome
+      → Served facts (λ setup. IsResend setup session) held held outcome outcome
   resends-none session held outcome none =
       served-nothing held outcome
       (λ setup c r st. rule-else (some_queue setup (is_ended session) c) (Is SaysEnded)
@@ -191,8 +191,8 @@ module _ {D : Type 0} {tells : D → Bool} {past : D → List Disk} {faults : D 
 
   pub resends-ended : (session : ℕ) {old new : Held D} {before later : Outcome}
       → true ≡ (standings old.sessions session).ended → 0 < length old.queues.items
-      → Served tells past faults (λ setup. Is SaysEnded) old new before later
-      → Served tells past faults (λ setup. IsResend setup session) old new before later
+      → Served facts (λ setup. Is SaysEnded) old new before later
+      → Served facts (λ setup. IsResend setup session) old new before later
   resends-ended session {old = old} ended some served =
       served-weaker served
       (λ setup c events r st allowed. rule-if (some_queue setup (is_ended session) c) (Is SaysEnded)
@@ -201,8 +201,8 @@ module _ {D : Type 0} {tells : D → Bool} {past : D → List Disk} {faults : D 
 
   pub resends-each : (session : ℕ) {old new : Held D} {before later : Outcome}
       → false ≡ (standings old.sessions session).ended
-      → Served tells past faults (λ setup. Sends setup session) old new before later
-      → Served tells past faults (λ setup. IsResend setup session) old new before later
+      → Served facts (λ setup. Sends setup session) old new before later
+      → Served facts (λ setup. IsResend setup session) old new before later
   resends-each session {old = old} not' served =
       served-weaker served
       (λ setup c events r st allowed. rule-else (some_queue setup (is_ended session) c) (Is SaysEnded)
@@ -211,8 +211,8 @@ module _ {D : Type 0} {tells : D → Bool} {past : D → List Disk} {faults : D 
 
   pub resends-gave_up : (session : ℕ) {old new : Held D} {memory : Memory}
       → false ≡ (standings old.sessions session).ended
-      → GaveUp tells past faults (λ setup. Sends setup session) old new memory
-      → GaveUp tells past faults (λ setup. IsResend setup session) old new memory
+      → GaveUp facts (λ setup. Sends setup session) old new memory
+      → GaveUp facts (λ setup. IsResend setup session) old new memory
   resends-gave_up session {old = old} not' given =
       gave_up-weaker
       (λ setup c events r st allowed. rule-else (some_queue setup (is_ended session) c) (Is SaysEnded)

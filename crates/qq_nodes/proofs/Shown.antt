@@ -12,7 +12,6 @@ use Rattle.qq_entry.specs.declared.command.Entry.{Entry}
 use Rattle.qq_entry.specs.declared.queue.QueueArgs.{QueueArgs}
 use Rattle.qq_model.specs.Audit.{stays_within}
 use Rattle.qq_model.specs.State.{empty_queue}
-use Rattle.qq_disk.specs.Disk.{Disk}
 use Rattle.qq_raft_model.specs.Group.{has_node}
 use Rattle.qq_raft_protocol.specs.Facts.{In}
 use Rattle.qq_cluster.specs.Cluster.{Cluster, Setup, Shows, members, members_in_order, state_at, Printed}
@@ -20,6 +19,7 @@ use Rattle.qq_cluster.specs.Texts.{printed_text, state_line, text_of}
 use Rattle.qq_cluster_laws.specs.Linked.{lot_of}
 use Rattle.qq_lots.specs.Lots.{ids_of}
 use Rattle.qq_base.specs.declared.ids.NodeId.{NodeId}
+use Rattle.qq_disk.specs.Facts.{DiskFacts}
 use Rattle.qq_script.specs.Audit.{audit_text}
 use Rattle.qq_cluster.specs.Queue.{Queue, audit_rows}
 use Rattle.qq_cluster_queue.specs.ClusterQueue.{OfItsQueue}
@@ -150,9 +150,9 @@ some-number (Some node) = refl
 
 -- ---- what a call adds
 
-module _ {D : Type 0} {tells : D → Bool} {past : D → List Disk} where
+module _ {D : Type 0} {facts : DiskFacts D} where
   queue-was : (setup : Setup) (c : Cluster) (held : Held D) (queue : QueueId) (x : ClusterQueue)
-      → IsQueueAt queue held → slice_get held.queues.items (queue.0 - 1) ≡ Some x → Stands tells past setup held c
+      → IsQueueAt queue held → slice_get held.queues.items (queue.0 - 1) ≡ Some x → Stands facts setup held c
       → IsQueueOf setup (standings held.sessions) c queue.0 x
   queue-was setup c held queue x is here st =
       subst (λ (k : ℕ). IsQueueOf setup (standings held.sessions) c k x)
@@ -162,7 +162,7 @@ module _ {D : Type 0} {tells : D → Bool} {past : D → List Disk} where
   -- what a queue tells of itself is so of the one at its place
   pub told-at : (Holds : Queue → Type 0) (held : Held D) (queue : QueueId) (x : ClusterQueue) → IsQueueAt queue held
       → slice_get held.queues.items (queue.0 - 1) ≡ Some x → OfItsQueue x Holds
-      → (setup : Setup) (c : Cluster) → Stands tells past setup held c → Holds (c.queue queue.0)
+      → (setup : Setup) (c : Cluster) → Stands facts setup held c → Holds (c.queue queue.0)
   told-at Holds held queue x is here own setup c st =
       own (standings held.sessions) (c.queue queue.0) (queue-was setup c held queue x is here st).stands
 
@@ -170,7 +170,7 @@ module _ {D : Type 0} {tells : D → Bool} {past : D → List Disk} where
   pub audit-at : (held : Held D) (queue : QueueId) (x : ClusterQueue) (before later : List ℕ) → IsQueueAt queue held
       → slice_get held.queues.items (queue.0 - 1) ≡ Some x
       → OfItsQueue x (λ (q : Queue). later ≡ before ++ audit_text x.label.name 0 (audit_rows q))
-      → (setup : Setup) (c : Cluster) → Stands tells past setup held c
+      → (setup : Setup) (c : Cluster) → Stands facts setup held c
       → later ≡ before ++ audit_text (setup.name queue.0) 0 (audit_rows (c.queue queue.0))
   audit-at held queue x before later is here own setup c st =
       let was : IsQueueOf setup (standings held.sessions) c queue.0 x = queue-was setup c held queue x is here st in
@@ -181,7 +181,7 @@ module _ {D : Type 0} {tells : D → Bool} {past : D → List Disk} where
   pub audit-over : (held : Held D) (queue : QueueId) (x : ClusterQueue) (before later : List ℕ) → IsQueueAt queue held
       → slice_get held.queues.items (queue.0 - 1) ≡ Some x
       → OfItsQueue x (λ (q : Queue). later ≡ before ++ audit_text x.label.name 0 (audit_rows q))
-      → (setup : Setup) (c : Cluster) (other : Held D) → other.queues ≡ held.queues → Stands tells past setup other c
+      → (setup : Setup) (c : Cluster) (other : Held D) → other.queues ≡ held.queues → Stands facts setup other c
       → later ≡ before ++ audit_text (setup.name queue.0) 0 (audit_rows (c.queue queue.0))
   audit-over held queue x before later is here own setup c other same st =
       audit-at other queue x before later
@@ -190,7 +190,7 @@ module _ {D : Type 0} {tells : D → Bool} {past : D → List Disk} where
 
   -- whether a node has a queue is whether the queue has a member there
   pub member-told : (held : Held D) (queue : QueueId) (at : ℕ) (y : Node D) → IsQueueAt queue held
-      → slice_get held.nodes.items at ≡ Some y → (setup : Setup) (c : Cluster) → Stands tells past setup held c
+      → slice_get held.nodes.items at ≡ Some y → (setup : Setup) (c : Cluster) → Stands facts setup held c
       → has_queue queue.0 y.queues.items ≡ has_node (at + 1) (members setup queue.0)
   member-told held queue at y is there setup c st =
       ap (has_queue queue.0) (st.nodes at y there).queues_are
@@ -205,10 +205,9 @@ module _ {D : Type 0} {tells : D → Bool} {past : D → List Disk} where
   pub line-at : (held : Held D) (queue : QueueId) (node : NodeId) (at : ℕ) (x : ClusterQueue) (y : Node D)
       (before later : Outcome) → IsQueueAt queue held → slice_get held.queues.items (queue.0 - 1) ≡ Some x
       → slice_get held.nodes.items at ≡ Some y → has_queue queue.0 y.queues.items ≡ true
-      → ((setup : Setup) (c : Cluster) → Stands tells past setup held c → node.0 ≡ at + 1)
-      → OfItsQueue x (λ (q : Queue).
+      → ((setup : Setup) (c : Cluster) → Stands facts setup held c → node.0 ≡ at + 1) → OfItsQueue x (λ (q : Queue).
       later ≡ with_line (state_line x.label.name node.0 (q.group.seat node.0).server) before)
-      → (setup : Setup) (c : Cluster) → Stands tells past setup held c
+      → (setup : Setup) (c : Cluster) → Stands facts setup held c
       → later ≡ with_line (member_text setup c queue.0 (at + 1)) before
   line-at held queue node at x y before later is here there has number own setup c st =
       let was : IsQueueOf setup (standings held.sessions) c queue.0 x = queue-was setup c held queue x is here st in
@@ -223,7 +222,7 @@ module _ {D : Type 0} {tells : D → Bool} {past : D → List Disk} where
   -- and nothing where there is none
   pub none-at : (held : Held D) (queue : QueueId) (at : ℕ) (y : Node D) (outcome : Outcome) → IsQueueAt queue held
       → slice_get held.nodes.items at ≡ Some y → has_queue queue.0 y.queues.items ≡ false
-      → (setup : Setup) (c : Cluster) → Stands tells past setup held c
+      → (setup : Setup) (c : Cluster) → Stands facts setup held c
       → outcome ≡ with_line (member_text setup c queue.0 (at + 1)) outcome
   none-at held queue at y outcome is there has setup c st =
       same-outcome outcome
@@ -234,8 +233,7 @@ module _ {D : Type 0} {tells : D → Bool} {past : D → List Disk} where
   pub audit-caused : (held : Held D) (queue : QueueId) (x : ClusterQueue) (e : Memory) → IsQueueAt queue held
       → slice_get held.queues.items (queue.0 - 1) ≡ Some x
       → SpentOnlyWhere e NUMBER_END (stays_within (empty_queue x.args) x.group.audit.items ≡ false)
-      → (setup : Setup) (c : Cluster) → Stands tells past setup held c
-      → SpentOnlyWhere e NUMBER_END
+      → (setup : Setup) (c : Cluster) → Stands facts setup held c → SpentOnlyWhere e NUMBER_END
       (stays_within (empty_queue (c.queue queue.0).args) (c.queue queue.0).group.audit ≡ false)
   audit-caused held queue x e is here cause setup c st =
       let was : IsQueueOf setup (standings held.sessions) c queue.0 x = queue-was setup c held queue x is here st in
@@ -249,7 +247,7 @@ module _ {D : Type 0} {tells : D → Bool} {past : D → List Disk} where
   pub caused-over : (held : Held D) (queue : QueueId) (x : ClusterQueue) (e : Memory) → IsQueueAt queue held
       → slice_get held.queues.items (queue.0 - 1) ≡ Some x
       → SpentOnlyWhere e NUMBER_END (stays_within (empty_queue x.args) x.group.audit.items ≡ false)
-      → (setup : Setup) (c : Cluster) (other : Held D) → other.queues ≡ held.queues → Stands tells past setup other c
+      → (setup : Setup) (c : Cluster) (other : Held D) → other.queues ≡ held.queues → Stands facts setup other c
       → SpentOnlyWhere e NUMBER_END
       (stays_within (empty_queue (c.queue queue.0).args) (c.queue queue.0).group.audit ≡ false)
   caused-over held queue x e is here cause setup c other same st =

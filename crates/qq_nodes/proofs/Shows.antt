@@ -1,9 +1,9 @@
 -- The lines of all members of a queue.
-use Rattle.std.proofs.Common.{◌≡◌, ◌<◌, ◌≤◌, ◌+◌, ℕ, zero, suc, Bool, List, [], ◌∷◌, ◌++◌, get_or, length, take, refl, sym, ap, ◌∙◌, arith}
+use Rattle.std.proofs.Common.{◌≡◌, ◌<◌, ◌≤◌, ◌+◌, ℕ, zero, suc, List, [], ◌∷◌, ◌++◌, get_or, length, take, refl, sym, ap, ◌∙◌, arith}
 use Rattle.std.specs.List.{flat_map}
 use Rattle.std.proofs.lemmas.List.{flat_map_more, take_more}
 use Rattle.std.proofs.lemmas.List.FromFn.{get_or-range_with_len, length-range_with_len}
-use Rattle.qq_disk.specs.Disk.{Disk}
+use Rattle.qq_disk.specs.Facts.{DiskFacts}
 use Rattle.qq_cluster.specs.Cluster.{Cluster, Setup, Shows}
 use Rattle.qq_cluster.specs.Outcome.{Outcome}
 use Rattle.qq_cluster.specs.Rules.{Is}
@@ -23,18 +23,17 @@ take-whole (x ∷ xs) zero le = absurd (omega (arith, le))
 take-whole (x ∷ xs) (suc n) le = ap (λ (l : List ℕ). x ∷ l) (take-whole xs n (omega (arith, le)))
 
 -- the lines of the first nodes
-abbrev pub ShownTo : {D : Type 0} → (D → Bool) → (D → List Disk) → ℕ → ℕ → Held D → Outcome → Outcome → Type 0
-ShownTo tells past place at held before later =
-    (setup : Setup) (c : Cluster) → Stands tells past setup held c
+abbrev pub ShownTo : {D : Type 0} → DiskFacts D → ℕ → ℕ → Held D → Outcome → Outcome → Type 0
+ShownTo facts place at held before later =
+    (setup : Setup) (c : Cluster) → Stands facts setup held c
     → later ≡ with_line (flat_map (member_text setup c place) (take at setup.nodes)) before
 
-module _ {D : Type 0} {tells : D → Bool} {past : D → List Disk} where
+module _ {D : Type 0} {facts : DiskFacts D} where
   -- one more
   pub shown-more : (place at : ℕ) (held : Held D) (before mid later : Outcome) → at < length held.nodes.items
-      → ShownTo tells past place at held before mid
-      → ((setup : Setup) (c : Cluster) → Stands tells past setup held c
+      → ShownTo facts place at held before mid → ((setup : Setup) (c : Cluster) → Stands facts setup held c
       → later ≡ with_line (member_text setup c place (at + 1)) mid)
-      → ShownTo tells past place (at + 1) held before later
+      → ShownTo facts place (at + 1) held before later
   shown-more place at held before mid later lt first second setup c st =
       second setup c st
       ∙ ap (with_line (member_text setup c place (at + 1))) (first setup c st)
@@ -52,9 +51,8 @@ module _ {D : Type 0} {tells : D → Bool} {past : D → List Disk} where
           ∙ get_or-range_with_len 1 (length held.nodes.items) at 0 lt ∙ (let e : 1 + at ≡ at + 1 = omega arith in e)
 
   -- all of them
-  pub shown-all : {faults : D → ℕ} (place at : ℕ) (held : Held D) (before later : Outcome) → length held.nodes.items ≤ at
-      → ShownTo tells past place at held before later
-      → Served tells past faults (λ setup. Is (Shows place)) held held before later
+  pub shown-all : (place at : ℕ) (held : Held D) (before later : Outcome) → length held.nodes.items ≤ at
+      → ShownTo facts place at held before later → Served facts (λ setup. Is (Shows place)) held held before later
   shown-all place at held before later le shown =
       served-unseen (Shows place) held held before later refl refl
       (λ setup c r st. (

@@ -12,7 +12,8 @@ use Rattle.qq_base.proofs.Puts.{put-each, put-same}
 use Rattle.qq_base.specs.Fronts.{put}
 use Rattle.qq_base.specs.declared.memory.Memory.{Memory}
 use Rattle.qq_base.specs.declared.memory.Memory.TheVariants.{Spent, Want}
-use Rattle.qq_disk.specs.Disk.{Disk, now}
+use Rattle.qq_disk.specs.Disk.{now}
+use Rattle.qq_disk.specs.Facts.{DiskFacts}
 use Rattle.qq_disk.proofs.Stored.{still_tells}
 use Rattle.qq_disk.specs.Moments.{Adds}
 use Rattle.qq_disk.proofs.Moments.{adds-now}
@@ -122,22 +123,22 @@ in-filter passes x (y ∷ ys) here = by (passes y) here (λ later. in-filter pas
     by true (inr later) rest = inr (rest later)
     by false later rest = inr (rest later)
 
-module _ {D : Type 0} {tells : D → Bool} {past : D → List Disk} {faults : D → ℕ} where
+module _ {D : Type 0} {facts : DiskFacts D} where
   -- a node that is down syncs nothing
   pub sync-down : (k : ℕ) (held : Held D) (told : Outcome)
-      → ((setup : Setup) (c : Cluster) → Stands tells past setup held c → false ≡ c.up k)
-      → Served tells past faults (λ setup. IsSync setup k) held held told told
+      → ((setup : Setup) (c : Cluster) → Stands facts setup held c → false ≡ c.up k)
+      → Served facts (λ setup. IsSync setup k) held held told told
   sync-down k held told down =
       served-nothing held told
       (λ setup c r st. rule-else (c.up k)
       (if_so (some_queue setup (waits_synced k) c) (IsSynced k) (MayRoll k)) IsNothing c [] (sym (down setup c st)) refl)
 
-module _ {D : Type 0} {tells : D → Bool} {past : D → List Disk} where
+module _ {D : Type 0} {facts : DiskFacts D} where
   pub may-sync : (k : ℕ) (old : Held D) → 0 < k
-      → ((setup : Setup) (c : Cluster) → Stands tells past setup old c → true ≡ c.up k) → CanServe tells past old
-      → (x : Node D) → slice_get old.nodes.items (k - 1) ≡ Some x → MaySyncAt tells past x
+      → ((setup : Setup) (c : Cluster) → Stands facts setup old c → true ≡ c.up k) → CanServe facts old
+      → (x : Node D) → slice_get old.nodes.items (k - 1) ≡ Some x → MaySyncAt facts x
   may-sync k old low up (setup, c, r, st) x here =
-      let was : IsNodeOf tells past setup c k x = node-was setup c old k x st low here in
+      let was : IsNodeOf facts setup c k x = node-was setup c old k x st low here in
       record {
         own = was.own;
         is = was.log_is;
@@ -145,21 +146,21 @@ module _ {D : Type 0} {tells : D → Bool} {past : D → List Disk} where
       }
 
   module _ (k : ℕ) (old : Held D) (nodes : Vec (Node D)) (low : 0 < k) (high : k ≤ length old.nodes.items)
-      (up : (setup : Setup) (c : Cluster) → Stands tells past setup old c → true ≡ c.up k) where
+      (up : (setup : Setup) (c : Cluster) → Stands facts setup old c → true ≡ c.up k) where
     abbrev mid : Held D
     mid = record old { nodes = nodes }
 
-    node-there : (setup : Setup) (c : Cluster) → Stands tells past setup old c → In k setup.nodes
+    node-there : (setup : Setup) (c : Cluster) → Stands facts setup old c → In k setup.nodes
     node-there setup c st = node-in setup c old k st low high
 
-    is-up : (setup : Setup) (c : Cluster) → Stands tells past setup old c → c.up k ≡ true
+    is-up : (setup : Setup) (c : Cluster) → Stands facts setup old c → c.up k ≡ true
     is-up setup c st = sym (up setup c st)
 
-    rise-at : (setup : Setup) (c : Cluster) → IsReached setup c → Stands tells past setup old c → (place : ℕ)
+    rise-at : (setup : Setup) (c : Cluster) → IsReached setup c → Stands facts setup old c → (place : ℕ)
         → CountsRise (c.queue place) k
     rise-at setup c r st place = counts-at setup c r place st.set_up.groups k
 
-    still : (setup : Setup) (c : Cluster) → IsReached setup c → Stands tells past setup old c → (at : ℕ)
+    still : (setup : Setup) (c : Cluster) → IsReached setup c → Stands facts setup old c → (at : ℕ)
         → at < length old.queues.items → is_in at old.active ≡ false
         → happens (c.queue (at + 1)) (SyncsAt k) ≡ c.queue (at + 1)
     still setup c r st at lt is =
@@ -168,7 +169,7 @@ module _ {D : Type 0} {tells : D → Bool} {past : D → List Disk} where
 
     -- the queues after the sync
     mid-queues : (last : Held D) → HasTurned (SyncsAt k) mid last → (setup : Setup) (c d : Cluster) → IsReached setup c
-        → Stands tells past setup old c
+        → Stands facts setup old c
         → ((at : ℕ) → at < length old.queues.items → d.queue (at + 1) ≡ happens (c.queue (at + 1)) (SyncsAt k))
         → QueuesOf setup (standings old.sessions) d last.queues.items
     mid-queues last marked setup c d r st synced =
@@ -177,7 +178,7 @@ module _ {D : Type 0} {tells : D → Bool} {past : D → List Disk} where
         (λ at lt is. synced at lt ∙ still setup c r st at lt is)
 
     -- where nothing waits for a sync all queues are as they were
-    unmoved : (setup : Setup) (c : Cluster) → IsReached setup c → Stands tells past setup old c
+    unmoved : (setup : Setup) (c : Cluster) → IsReached setup c → Stands facts setup old c
         → some_queue setup (waits_synced k) c ≡ false → (at : ℕ) → at < length old.queues.items
         → c.queue (at + 1) ≡ happens (c.queue (at + 1)) (SyncsAt k)
     unmoved setup c r st none at lt =
@@ -185,42 +186,43 @@ module _ {D : Type 0} {tells : D → Bool} {past : D → List Disk} where
         (none-at (λ (place : ℕ). waits_synced k (c.queue place)) setup.places (at + 1) none
         (place-here setup c old at st lt)))
 
-    sync-rule : (setup : Setup) (c : Cluster) (events : List ClusterEvent) → Stands tells past setup old c
+    sync-rule : (setup : Setup) (c : Cluster) (events : List ClusterEvent) → Stands facts setup old c
         → if_so (some_queue setup (waits_synced k) c) (IsSynced k) (MayRoll k) c events → IsSync setup k c events
     sync-rule setup c events st allowed =
         rule-if (c.up k) (if_so (some_queue setup (waits_synced k) c) (IsSynced k) (MayRoll k)) IsNothing c events
         (is-up setup c st) allowed
 
-    module _ (faults : D → ℕ) (outcome : SyncOutcome) (turn : NodeTurns (Syncs tells past faults outcome) (k - 1) old.nodes.items nodes.items)
-        (setup : Setup) (c : Cluster) (r : IsReached setup c) (st : Stands tells past setup old c) where
-      was : IsNodeOf tells past setup c k turn.old
+    module _ (outcome : SyncOutcome) (turn : NodeTurns (Syncs facts outcome) (k - 1) old.nodes.items nodes.items)
+        (setup : Setup) (c : Cluster) (r : IsReached setup c) (st : Stands facts setup old c) where
+      was : IsNodeOf facts setup c k turn.old
       was = node-was setup c old k turn.old st low turn.here
 
-      abbrev ch : ChangesLog tells past faults (λ (lot : Lot) (parts : Parts). parts) turn.old turn.new
+      abbrev ch : ChangesLog facts (λ (lot : Lot) (parts : Parts). parts) turn.old turn.new
       ch = turn.turns.change
 
       abbrev same_parts : Lot → Parts → Parts
       same_parts = λ (lot : Lot) (parts : Parts). parts
 
-      running : IsRunningIn tells past (lot_of setup k) (parts_at c k) ch.before
+      running : IsRunningIn facts (lot_of setup k) (parts_at c k) ch.before
       running = log-runs setup c k turn.old turn.new same_parts was (is-up setup c st) ch
 
-      come : IsTrue (tells (disk_in ch.before)) → IsLinked setup c k (now (past (disk_in ch.before)))
-          → HasCome outcome (lot_of setup k) (parts_at c k) (past (disk_in ch.before)) (past (disk_in ch.behind))
+      come : IsTrue (facts.tells (disk_in ch.before)) → IsLinked setup c k (now (facts.past (disk_in ch.before)))
+          → HasCome outcome (lot_of setup k) (parts_at c k)
+          (facts.past (disk_in ch.before)) (facts.past (disk_in ch.behind))
       come told linked =
           turn.turns.come (lot_of setup k) (parts_at c k) running told (linked.tied (is-up setup c st))
 
-      moments : IsTrue (tells (disk_in ch.before)) → IsLinked setup c k (now (past (disk_in ch.before)))
-          → Adds (IsPromised setup c k) (past (disk_in ch.before)) (past (disk_in ch.behind))
+      moments : IsTrue (facts.tells (disk_in ch.before)) → IsLinked setup c k (now (facts.past (disk_in ch.before)))
+          → Adds (IsPromised setup c k) (facts.past (disk_in ch.before)) (facts.past (disk_in ch.behind))
       moments told linked =
           (log-moments setup c k turn.old turn.new same_parts was (is-up setup c st) ch told linked).0
 
       -- the node that goes on
       goes : (d : Cluster) → outcome ≡ Whole → d.up k ≡ c.up k
           → AllByRecursion (λ (place : ℕ). (parts_at d k place).ops ≡ (parts_at c k place).ops) (lot_of setup k).places
-          → MembersFollow setup d k → IsNodeOf tells past setup d k turn.new
+          → MembersFollow setup d k → IsNodeOf facts setup d k turn.new
       goes d whole ups ops follow =
-          subst (IsNodeOf tells past setup d k) (sym ch.is) (record {
+          subst (IsNodeOf facts setup d k) (sym ch.is) (record {
             id_is = was.id_is;
             few = was.few;
             up_is = was.up_is ∙ sym ups;
@@ -230,7 +232,7 @@ module _ {D : Type 0} {tells : D → Bool} {past : D → List Disk} where
             own = ch.behind;
             log_is = refl;
             log = record {
-              running = λ _. running-same tells past (lot_of setup k) (keep_all (parts_at c k)) (parts_at d k) ch.behind
+              running = λ _. running-same facts (lot_of setup k) (keep_all (parts_at c k)) (parts_at d k) ch.behind
                   ops ((turn.turns.runs whole).running (lot_of setup k) (parts_at c k) running);
               whole = log-whole setup c k turn.old turn.new same_parts was (is-up setup c st) ch;
             };
@@ -243,9 +245,9 @@ module _ {D : Type 0} {tells : D → Bool} {past : D → List Disk} where
       same-ops d ops (place ∷ places) = (ops place, same-ops d ops places)
 
       -- and one that has stopped
-      stops : (d : Cluster) → IsNodeOf tells past setup (cluster_happens d (Fails k)) k (record turn.new { up = false })
+      stops : (d : Cluster) → IsNodeOf facts setup (cluster_happens d (Fails k)) k (record turn.new { up = false })
       stops d =
-          subst (λ (y : Node D). IsNodeOf tells past setup (cluster_happens d (Fails k)) k (record y { up = false }))
+          subst (λ (y : Node D). IsNodeOf facts setup (cluster_happens d (Fails k)) k (record y { up = false }))
           (sym ch.is) (record {
             id_is = was.id_is;
             few = was.few;
@@ -307,8 +309,7 @@ module _ {D : Type 0} {tells : D → Bool} {past : D → List Disk} where
       -- something waited
       synced-some : (last : Held D) (told : Outcome) → outcome ≡ Whole → HasTurned (SyncsAt k) mid last
           → some_queue setup (waits_synced k) c ≡ true
-          → Serves setup c (IsSync setup k c) (Stands tells past setup last) (seen tells past faults old)
-          (seen tells past faults last) told told
+          → Serves setup c (IsSync setup k c) (Stands facts setup last) (seen facts old) (seen facts last) told told
       synced-some last told whole marked some =
           call-serves setup c k (NodeSyncs k ∷ []) old last turn.old turn.new turn.new same_parts (own-sync k, tt) low
           turn.here (changed last marked).nodes was (is-up setup c st) ch log-same (IsSync setup k c) told told
@@ -323,25 +324,27 @@ module _ {D : Type 0} {tells : D → Bool} {past : D → List Disk} where
           (same-outcome told)
           (λ told linked. whole-traced linked (whole-come whole told linked))
         where
-          whole-traced : IsLinked setup c k (now (past (disk_in ch.before)))
-              → HasCome Whole (lot_of setup k) (parts_at c k) (past (disk_in ch.before)) (past (disk_in ch.behind))
-              → IsTracedAt setup c k (NodeSyncs k ∷ []) (past (disk_in ch.before)) (past (disk_in ch.behind))
+          whole-traced : IsLinked setup c k (now (facts.past (disk_in ch.before)))
+              → HasCome Whole (lot_of setup k) (parts_at c k)
+              (facts.past (disk_in ch.before)) (facts.past (disk_in ch.behind))
+              → IsTracedAt setup c k (NodeSyncs k ∷ [])
+              (facts.past (disk_in ch.before)) (facts.past (disk_in ch.behind))
           whole-traced linked has =
-              synced-traced setup c k (past (disk_in ch.before)) has.0.mid (past (disk_in ch.behind)) (is-up setup c st)
-              was.members linked.promised has.0.stays has.0.tied has.0.later has.1
+              synced-traced setup c k (facts.past (disk_in ch.before)) has.0.mid (facts.past (disk_in ch.behind))
+              (is-up setup c st) was.members linked.promised has.0.stays has.0.tied has.0.later has.1
 
-          whole-come : outcome ≡ Whole → IsTrue (tells (disk_in ch.before))
-              → IsLinked setup c k (now (past (disk_in ch.before)))
-              → HasCome Whole (lot_of setup k) (parts_at c k) (past (disk_in ch.before)) (past (disk_in ch.behind))
+          whole-come : outcome ≡ Whole → IsTrue (facts.tells (disk_in ch.before))
+              → IsLinked setup c k (now (facts.past (disk_in ch.before)))
+              → HasCome Whole (lot_of setup k) (parts_at c k)
+              (facts.past (disk_in ch.before)) (facts.past (disk_in ch.behind))
           whole-come is told linked =
-              subst (λ (o : SyncOutcome). HasCome o (lot_of setup k) (parts_at c k) (past (disk_in ch.before))
-              (past (disk_in ch.behind))) is (come told linked)
+              subst (λ (o : SyncOutcome). HasCome o (lot_of setup k) (parts_at c k) (facts.past (disk_in ch.before))
+              (facts.past (disk_in ch.behind))) is (come told linked)
 
       -- nothing did, and perhaps a full file is replaced
       synced-none : (last : Held D) (told : Outcome) → outcome ≡ Whole → HasTurned (SyncsAt k) mid last
           → some_queue setup (waits_synced k) c ≡ false
-          → Serves setup c (IsSync setup k c) (Stands tells past setup last) (seen tells past faults old)
-          (seen tells past faults last) told told
+          → Serves setup c (IsSync setup k c) (Stands facts setup last) (seen facts old) (seen facts last) told told
       synced-none last told whole marked none =
           call-serves setup c k [] old last turn.old turn.new turn.new same_parts tt low turn.here
           (changed last marked).nodes was (is-up setup c st) ch log-same (IsSync setup k c) told told
@@ -356,10 +359,11 @@ module _ {D : Type 0} {tells : D → Bool} {past : D → List Disk} where
             linked.promised,
             moments told linked,
             record {
-              promised = adds-now (IsPromised setup c k) (past (disk_in ch.before)) (past (disk_in ch.behind))
+              promised = adds-now (IsPromised setup c k)
+                  (facts.past (disk_in ch.before)) (facts.past (disk_in ch.behind))
                   (moments told linked) linked.promised;
               tied = λ _. tied-same (lot_of setup k) (keep_all (parts_at c k)) (parts_at c k)
-                  (now (past (disk_in ch.behind))) (all-kept none)
+                  (now (facts.past (disk_in ch.behind))) (all-kept none)
                   ((turn.turns.runs whole).tied (lot_of setup k) (parts_at c k) running told
                   (linked.tied (is-up setup c st)));
             },
@@ -387,9 +391,8 @@ module _ {D : Type 0} {tells : D → Bool} {past : D → List Disk} where
           → before ≡ record old { queues = before.queues; nodes = nodes }
           → length before.queues.items ≡ length old.queues.items
           → QueuesOf setup (standings old.sessions) c before.queues.items → after ≡ with_line line first
-          → Rose (faults (disk_in ch.before)) (faults (disk_in ch.behind))
-          → Serves setup c (IsSync setup k c) (Stands tells past setup last) (seen tells past faults old)
-          (seen tells past faults last) first after
+          → Rose (facts.faults (disk_in ch.before)) (facts.faults (disk_in ch.behind))
+          → Serves setup c (IsSync setup k c) (Stands facts setup last) (seen facts old) (seen facts last) first after
       failed-alone before last first after stopped same many queues says rose =
           let changes = stopped-changed before last stopped same many in
           call-serves setup c k (Fails k ∷ []) old last turn.old turn.new (record turn.new { up = false }) same_parts
@@ -404,8 +407,8 @@ module _ {D : Type 0} {tells : D → Bool} {past : D → List Disk} where
           (subst (λ (s : List (ℕ × Standing)). QueuesOf setup (standings s) c before.queues.items)
           (sym (ap (λ (h : Held D). h.sessions) same)) queues))) refl
           (quiet-still c (λ at lt calm. refl) refl)) (said first after says)
-          (λ told linked. failed-traced setup c k (past (disk_in ch.before)) (past (disk_in ch.behind)) linked.promised
-          (moments told linked))
+          (λ told linked. failed-traced setup c k
+          (facts.past (disk_in ch.before)) (facts.past (disk_in ch.behind)) linked.promised (moments told linked))
         where
           either : (b : Bool) → if_so b (IsSynced k) (MayRoll k) c (Fails k ∷ [])
           either true = inr (inl refl)
@@ -414,9 +417,8 @@ module _ {D : Type 0} {tells : D → Bool} {past : D → List Disk} where
       -- after the sync, where a new file was begun
       failed-after : (before last : Held D) (first after : Outcome) → outcome ≡ NoFile → HasTurned (SyncsAt k) mid before
           → HasStopped k before last → some_queue setup (waits_synced k) c ≡ true → after ≡ with_line line first
-          → Rose (faults (disk_in ch.before)) (faults (disk_in ch.behind))
-          → Serves setup c (IsSync setup k c) (Stands tells past setup last) (seen tells past faults old)
-          (seen tells past faults last) first after
+          → Rose (facts.faults (disk_in ch.before)) (facts.faults (disk_in ch.behind))
+          → Serves setup c (IsSync setup k c) (Stands facts setup last) (seen facts old) (seen facts last) first after
       failed-after before last first after no_file marked stopped some says rose =
           let d : Cluster = cluster_happens c (NodeSyncs k) in
           let events : List ClusterEvent = NodeSyncs k ∷ Fails k ∷ [] in
@@ -436,34 +438,35 @@ module _ {D : Type 0} {tells : D → Bool} {past : D → List Disk} where
           (mid-queues before marked setup c d r st (λ at lt. refl))))) refl
           (quiet-still d (λ at lt calm. still setup c r st at lt calm) refl)) (said first after says)
           (λ told linked. traced linked
-          (subst (λ (o : SyncOutcome). HasCome o (lot_of setup k) (parts_at c k) (past (disk_in ch.before))
-          (past (disk_in ch.behind))) no_file (come told linked)))
+          (subst (λ (o : SyncOutcome). HasCome o (lot_of setup k) (parts_at c k) (facts.past (disk_in ch.before))
+          (facts.past (disk_in ch.behind))) no_file (come told linked)))
         where
-          traced : IsLinked setup c k (now (past (disk_in ch.before)))
-              → HasCome NoFile (lot_of setup k) (parts_at c k) (past (disk_in ch.before)) (past (disk_in ch.behind))
-              → IsTracedAt setup c k (NodeSyncs k ∷ Fails k ∷ []) (past (disk_in ch.before)) (past (disk_in ch.behind))
+          traced : IsLinked setup c k (now (facts.past (disk_in ch.before)))
+              → HasCome NoFile (lot_of setup k) (parts_at c k)
+              (facts.past (disk_in ch.before)) (facts.past (disk_in ch.behind))
+              → IsTracedAt setup c k (NodeSyncs k ∷ Fails k ∷ [])
+              (facts.past (disk_in ch.before)) (facts.past (disk_in ch.behind))
           traced linked has =
-              sync_failed-traced setup c k (past (disk_in ch.before)) has.mid (past (disk_in ch.behind))
+              sync_failed-traced setup c k (facts.past (disk_in ch.before)) has.mid (facts.past (disk_in ch.behind))
               (is-up setup c st) was.members linked.promised has.stays has.tied has.later
 
     -- ---- it is given up
 
-    left : (faults : D → ℕ) (x y : Node D) (new : Held D) → slice_get old.nodes.items (k - 1) ≡ Some x
+    left : (x y : Node D) (new : Held D) → slice_get old.nodes.items (k - 1) ≡ Some x
         → new.nodes.items ≡ slice_set old.nodes.items (k - 1) y
-        → ChangesLog tells past faults (λ (lot : Lot) (parts : Parts). parts) x y → (setup : Setup) (c : Cluster)
-        → IsReached setup c → Stands tells past setup old c
-        → GivesUp setup c (seen tells past faults old) (seen tells past faults new)
-    left faults x y new here is change setup c r st =
-        let own : IsNodeOf tells past setup c k x = node-was setup c old k x st low here in
+        → ChangesLog facts (λ (lot : Lot) (parts : Parts). parts) x y → (setup : Setup) (c : Cluster)
+        → IsReached setup c → Stands facts setup old c → GivesUp setup c (seen facts old) (seen facts new)
+    left x y new here is change setup c r st =
+        let own : IsNodeOf facts setup c k x = node-was setup c old k x st low here in
         let parts_same : Lot → Parts → Parts = λ lot parts. parts in
         call-gives_up setup c k [] old new x y y parts_same tt low here is own (is-up setup c st) change
         (ap (λ (z : Node D). z.log) change.is)
-        (λ told linked. broken-none setup c k (past (disk_in change.before)) (past (disk_in change.behind))
+        (λ told linked. broken-none setup c k (facts.past (disk_in change.before)) (facts.past (disk_in change.behind))
         linked.promised
         (log-moments setup c k x y parts_same own (is-up setup c st) change told linked).0)
 
   module _ (k : ℕ) (old : Held D) (nodes : Vec (Node D)) (low : 0 < k) (high : k ≤ length old.nodes.items)
-      (up : (setup : Setup) (c : Cluster) → Stands tells past setup old c → true ≡ c.up k) where
+      (up : (setup : Setup) (c : Cluster) → Stands facts setup old c → true ≡ c.up k) where
     abbrev after_log : Held D
     after_log = record old { nodes = nodes }
 
@@ -472,79 +475,79 @@ module _ {D : Type 0} {tells : D → Bool} {past : D → List Disk} where
     whether P false yes' no' = no' refl
 
     -- all of it is synced, and the log goes on
-    pub synced : (faults : D → ℕ) (last : Held D) (told : Outcome)
-        → NodeTurns (Syncs tells past faults Whole) (k - 1) old.nodes.items nodes.items
-        → HasTurned (SyncsAt k) after_log last → Served tells past faults (λ setup. IsSync setup k) old last told told
-    synced faults last told turn marked = record {
+    pub synced : (last : Held D) (told : Outcome)
+        → NodeTurns (Syncs facts Whole) (k - 1) old.nodes.items nodes.items
+        → HasTurned (SyncsAt k) after_log last → Served facts (λ setup. IsSync setup k) old last told told
+    synced last told turn marked = record {
       serves = λ setup c r st. whether _ (some_queue setup (waits_synced k) c)
-          (λ some. synced-some k old nodes low high up faults Whole turn setup c r st last told refl marked some)
-          (λ none. synced-none k old nodes low high up faults Whole turn setup c r st last told refl marked none);
+          (λ some. synced-some k old nodes low high up facts.faults Whole turn setup c r st last told refl marked some)
+          (λ none. synced-none k old nodes low high up facts.faults Whole turn setup c r st last told refl marked none);
     }
 
     -- the disk failed where a new file was begun
-    pub synced-failed : (faults : D → ℕ) (marked last : Held D) (before after : Outcome)
-        → NodeTurns (Syncs tells past faults NoFile) (k - 1) old.nodes.items nodes.items
+    pub synced-failed : (marked last : Held D) (before after : Outcome)
+        → NodeTurns (Syncs facts NoFile) (k - 1) old.nodes.items nodes.items
         → HasTurned (SyncsAt k) after_log marked → HasStopped k marked last
         → after ≡ with_line (codes "node " ++ decimal k ++ codes " stopped\n") before
-        → Served tells past faults (λ setup. IsSync setup k) old last before after
-    synced-failed faults marked last before after turn turned stopped says = record {
+        → Served facts (λ setup. IsSync setup k) old last before after
+    synced-failed marked last before after turn turned stopped says = record {
       serves = λ setup c r st. whether _ (some_queue setup (waits_synced k) c)
-          (λ some. failed-after k old nodes low high up faults NoFile turn setup c r st marked last before after refl turned
-          stopped some says turn.turns.failed)
-          (λ none. failed-alone k old nodes low high up faults NoFile turn setup c r st marked last before after stopped
-          turned.same turned.turns.many
+          (λ some. failed-after k old nodes low high up facts.faults NoFile turn setup c r st marked last
+          before after refl turned stopped some says turn.turns.failed)
+          (λ none. failed-alone k old nodes low high up facts.faults NoFile turn setup c r st marked last
+          before after stopped turned.same turned.turns.many
           (mid-queues k old nodes low high up marked turned setup c c r st
           (unmoved k old nodes low high up setup c r st none)) says turn.turns.failed);
     }
 
     -- it failed in the sync
-    pub sync-failed : (faults : D → ℕ) (last : Held D) (before after : Outcome)
-        → NodeTurns (Syncs tells past faults Nothing) (k - 1) old.nodes.items nodes.items
+    pub sync-failed : (last : Held D) (before after : Outcome)
+        → NodeTurns (Syncs facts Nothing) (k - 1) old.nodes.items nodes.items
         → HasStopped k after_log last → after ≡ with_line (codes "node " ++ decimal k ++ codes " stopped\n") before
-        → Served tells past faults (λ setup. IsSync setup k) old last before after
-    sync-failed faults last before after turn stopped says = record {
+        → Served facts (λ setup. IsSync setup k) old last before after
+    sync-failed last before after turn stopped says = record {
       serves = λ setup c r st.
-          failed-alone k old nodes low high up faults Nothing turn setup c r st after_log last before after stopped refl refl
-          st.queues says turn.turns.failed;
+          failed-alone k old nodes low high up facts.faults Nothing turn setup c r st after_log last before
+          after stopped refl refl st.queues says turn.turns.failed;
     }
 
-    left-logs : (faults : D → ℕ) (P : Node D → Node D → Type 0) (turn : NodeTurns P (k - 1) old.nodes.items nodes.items)
-        → ChangesLog tells past faults (λ (lot : Lot) (parts : Parts). parts) turn.old turn.new → (setup : Setup)
-        (c : Cluster) → Stands tells past setup old c → HaveLogs setup nodes.items
-    left-logs faults P turn ch setup c st =
+    left-logs : (P : Node D → Node D → Type 0) (turn : NodeTurns P (k - 1) old.nodes.items nodes.items)
+        → ChangesLog facts (λ (lot : Lot) (parts : Parts). parts) turn.old turn.new → (setup : Setup) (c : Cluster)
+        → Stands facts setup old c → HaveLogs setup nodes.items
+    left-logs P turn ch setup c st =
         logs-with setup old.nodes.items nodes.items (k - 1) turn.new ch.behind turn.is
         (ap (λ (y : Node D). y.log) ch.is) (stands-logs setup old c st)
 
     -- a number is at its end, or there was no memory
-    pub sync-spent : (faults : D → ℕ) (memory : Memory)
-        → NodeTurns (SyncsInPart tells past faults memory) (k - 1) old.nodes.items nodes.items
-        → GaveUp tells past faults (λ setup. IsSync setup k) old after_log memory
-    sync-spent faults memory turn = record {
-      gives_up = left k old nodes low high up faults turn.old turn.new after_log turn.here turn.is turn.turns.change;
-      logs = λ setup c r st. left-logs faults (SyncsInPart tells past faults memory) turn turn.turns.change setup c st;
+    pub sync-spent : (memory : Memory)
+        → NodeTurns (SyncsInPart facts memory) (k - 1) old.nodes.items nodes.items
+        → GaveUp facts (λ setup. IsSync setup k) old after_log memory
+    sync-spent memory turn = record {
+      gives_up = left k old nodes low high up turn.old turn.new after_log turn.here turn.is turn.turns.change;
+      logs = λ setup c r st. left-logs (SyncsInPart facts memory) turn turn.turns.change setup c st;
       spent = λ number is setup c r st.
           (let last : IsLastIn turn.turns.change.behind (Spent number) =
           subst (IsLastIn turn.turns.change.behind) is turn.turns.last in
           let more : Allowed (IsSync setup k) c = total-sync setup k c in
-          let ch : ChangesLog tells past faults (λ (lot : Lot) (parts : Parts). parts) turn.old turn.new =
+          let ch : ChangesLog facts (λ (lot : Lot) (parts : Parts). parts) turn.old turn.new =
           turn.turns.change in
           ends-now setup (IsSync setup k) old c number st more
           (InNumbers (k - 1) ch.before (disk_in ch.behind)
           (record { node = turn.old; here = turn.here; is = ch.was }) ch.later
-          (λ tell. subst (λ (m : Memory). IsLastOn m (now (past (disk_in ch.behind)))) is
+          (λ tell. subst (λ (m : Memory). IsLastOn m (now (facts.past (disk_in ch.behind)))) is
           (turn.turns.shown (still_tells (sym ch.later.told) tell))))
           (last-ends ch.behind number last));
     }
 
     -- the disk failed, and there was no memory to say so
-    pub sync-wants : (faults : D → ℕ) (outcome : SyncOutcome) (last : Held D) (memory : Memory)
-        → NodeTurns (Syncs tells past faults outcome) (k - 1) old.nodes.items nodes.items → last.nodes ≡ nodes
-        → memory ≡ Want → GaveUp tells past faults (λ setup. IsSync setup k) old last memory
-    sync-wants faults outcome last memory turn same want = record {
-      gives_up = left k old nodes low high up faults turn.old turn.new last turn.here
+    pub sync-wants : (outcome : SyncOutcome) (last : Held D) (memory : Memory)
+        → NodeTurns (Syncs facts outcome) (k - 1) old.nodes.items nodes.items → last.nodes ≡ nodes
+        → memory ≡ Want → GaveUp facts (λ setup. IsSync setup k) old last memory
+    sync-wants outcome last memory turn same want = record {
+      gives_up = left k old nodes low high up turn.old turn.new last turn.here
           (ap (λ (v : Vec (Node D)). v.items) same ∙ turn.is) turn.turns.change;
       logs = λ setup c r st.
           same-logs setup nodes last.nodes same
-          (left-logs faults (Syncs tells past faults outcome) turn turn.turns.change setup c st);
+          (left-logs (Syncs facts outcome) turn turn.turns.change setup c st);
       spent = λ number is. absurd (let e : Want ≡ Spent number = sym want ∙ is in cc);
     }

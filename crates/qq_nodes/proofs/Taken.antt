@@ -4,7 +4,7 @@ use Rattle.std.specs.Prelude.{filter, nat_eq, nat_lt}
 use Rattle.std.specs.List.{AllByRecursion, flat_map, list_any, range_with_len}
 use Rattle.std.proofs.lemmas.Bool.{cases_Bool, cases_eq, false≢true, lt-ltb, ne_eqb, or_from, or_parts}
 use Rattle.qq_base.proofs.Lists.{AllByRecursion-weaker}
-use Rattle.qq_disk.specs.Disk.{Disk}
+use Rattle.qq_disk.specs.Facts.{DiskFacts}
 use Rattle.qq_log.specs.declared.op.Op.{Op}
 use Rattle.qq_raft_model.specs.Group.{has_node}
 use Rattle.qq_raft_model.specs.State.{Server}
@@ -164,8 +164,8 @@ apart-range setup a (suc n) ids = (
       others (b + 1) m (omega (arith, low)) (omega (arith, high)),
     )
 
-module _ {D : Type 0} {tells : D → Bool} {past : D → List Disk} where
-  pub apart-places : (setup : Setup) (c : Cluster) (held : Held D) → Stands tells past setup held c
+module _ {D : Type 0} {facts : DiskFacts D} where
+  pub apart-places : (setup : Setup) (c : Cluster) (held : Held D) → Stands facts setup held c
       → AreApart setup setup.places
   apart-places setup c held st =
       subst (AreApart setup) (sym st.set_up.places)
@@ -176,8 +176,8 @@ module _ {D : Type 0} {tells : D → Bool} {past : D → List Disk} where
       (let e : (place - 1) + 1 ≡ place = omega (arith, low) in e)
       (in-range (length held.queues.items) (place - 1) (omega (arith, low, high)))))))
 
-  module _ (k : ℕ) (old new : Held D) (ops : List Op) (taken : HasTaken tells past k old new ops) (setup : Setup)
-      (c : Cluster) (r : IsReached setup c) (st : Stands tells past setup old c) (up : c.up k ≡ true)
+  module _ (k : ℕ) (old new : Held D) (ops : List Op) (taken : HasTaken facts k old new ops) (setup : Setup)
+      (c : Cluster) (r : IsReached setup c) (st : Stands facts setup old c) (up : c.up k ≡ true)
       (node : In k setup.nodes) where
     -- of all queues
     pub taken-places : ops ≡ flat_map (waits_at setup c k) setup.places

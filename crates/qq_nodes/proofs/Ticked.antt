@@ -1,9 +1,9 @@
 -- Time passes at queues' first members.
-use Rattle.std.proofs.Common.{◌≡◌, ◌+◌, ℕ, Bool, List, [], ◌∷◌, Some, None, refl, sym, ap, ◌∙◌, subst}
+use Rattle.std.proofs.Common.{◌≡◌, ◌+◌, ℕ, List, [], ◌∷◌, Some, None, refl, sym, ap, ◌∙◌, subst}
 use Rattle.std.specs.Prelude.{slice_get}
 use Rattle.qq_base.specs.declared.ids.NodeId.{NodeId}
 use Rattle.qq_base.specs.declared.memory.Memory.{Memory}
-use Rattle.qq_disk.specs.Disk.{Disk}
+use Rattle.qq_disk.specs.Facts.{DiskFacts}
 use Rattle.qq_raft_model.specs.Group.{Group}
 use Rattle.qq_cluster.specs.Cluster.{At, Cluster, ClusterEvent, Setup, members}
 use Rattle.qq_cluster.specs.Queue.{Ticks}
@@ -36,20 +36,19 @@ total-tick_at place (n ∷ nodes) = total-is (At place (Ticks n.0))
 pub total-first_tick : (setup : Setup) (place : ℕ) → Total (IsFirstTick setup place)
 total-first_tick setup place = total-tick_at place (members setup place)
 
-members-are : {D : Type 0} {tells : D → Bool} {past : D → List Disk} (setup : Setup) (c : Cluster) (held : Held D)
-    (at : ℕ) (x : ClusterQueue) → IsReached setup c
-    → Stands tells past setup held c → slice_get held.queues.items at ≡ Some x
-    → x.group.nodes.items ≡ members setup (at + 1)
+members-are : {D : Type 0} {facts : DiskFacts D} (setup : Setup) (c : Cluster) (held : Held D) (at : ℕ)
+    (x : ClusterQueue) → IsReached setup c
+    → Stands facts setup held c → slice_get held.queues.items at ≡ Some x → x.group.nodes.items ≡ members setup (at + 1)
 members-are setup c held at x r st here =
     sym (st.queues at x here).stands.group.represents.nodes
     ∙ ap (λ (g : Group). g.nodes) (group-made setup c r (at + 1))
     ∙ nodes-same (made setup c r (at + 1)) (setup.group (at + 1))
 
-module _ {D : Type 0} {tells : D → Bool} {past : D → List Disk} {faults : D → ℕ} where
+module _ {D : Type 0} {facts : DiskFacts D} where
   -- time passes at a queue's first member, where it has one
   pub ticks-none : (at : ℕ) (held : Held D) (x : ClusterQueue) (outcome : Outcome)
       → slice_get held.queues.items at ≡ Some x → slice_get x.group.nodes.items 0 ≡ None
-      → Served tells past faults (λ (setup : Setup). IsFirstTick setup (at + 1)) held held outcome outcome
+      → Served facts (λ (setup : Setup). IsFirstTick setup (at + 1)) held held outcome outcome
   ticks-none at held x outcome here none =
       served-nothing held outcome
       (λ setup c r st. tick-none (at + 1) (members setup (at + 1)) c
@@ -57,8 +56,8 @@ module _ {D : Type 0} {tells : D → Bool} {past : D → List Disk} {faults : D 
 
   pub ticks : (at : ℕ) (node : NodeId) (x : ClusterQueue) {old new : Held D} {before later : Outcome}
       → slice_get old.queues.items at ≡ Some x → slice_get x.group.nodes.items 0 ≡ Some node
-      → Served tells past faults (λ setup. Is (At (at + 1) (Ticks node.0))) old new before later
-      → Served tells past faults (λ (setup : Setup). IsFirstTick setup (at + 1)) old new before later
+      → Served facts (λ setup. Is (At (at + 1) (Ticks node.0))) old new before later
+      → Served facts (λ (setup : Setup). IsFirstTick setup (at + 1)) old new before later
   ticks at node x {old = old} here first served =
       served-weaker served
       (λ setup c events r st allowed. tick-some (at + 1) (members setup (at + 1)) node c events
@@ -66,8 +65,8 @@ module _ {D : Type 0} {tells : D → Bool} {past : D → List Disk} {faults : D 
 
   pub ticks-gave_up : (at : ℕ) (node : NodeId) (x : ClusterQueue) {old new : Held D} {memory : Memory}
       → slice_get old.queues.items at ≡ Some x → slice_get x.group.nodes.items 0 ≡ Some node
-      → GaveUp tells past faults (λ setup. Is (At (at + 1) (Ticks node.0))) old new memory
-      → GaveUp tells past faults (λ (setup : Setup). IsFirstTick setup (at + 1)) old new memory
+      → GaveUp facts (λ setup. Is (At (at + 1) (Ticks node.0))) old new memory
+      → GaveUp facts (λ (setup : Setup). IsFirstTick setup (at + 1)) old new memory
   ticks-gave_up at node x {old = old} here first given =
       gave_up-weaker
       (λ setup c events r st allowed. tick-some (at + 1) (members setup (at + 1)) node c events

@@ -8,7 +8,7 @@ use Rattle.std.proofs.lemmas.Bool.{cases_eq, cases_lt, eq-eqb, false≢true, le-
 use Rattle.std.proofs.lemmas.List.Elements.{All-from_all_within, All-nil}
 use Rattle.std.proofs.lemmas.List.Folds.{list_any_more}
 use Rattle.std.proofs.lemmas.Option.{get_or_from_slice_get, slice_get-get_or, slice_get_cases}
-use Rattle.qq_disk.specs.Disk.{Disk}
+use Rattle.qq_disk.specs.Facts.{DiskFacts}
 use Rattle.qq_log.specs.Writable.{MayWrite}
 use Rattle.qq_log.specs.declared.op.Op.{Op}
 use Rattle.qq_raft_model.specs.State.{Server}
@@ -195,18 +195,17 @@ waiting-same None = refl
 waiting-same (Some s) = refl
 
 -- so many of the active queues have handed out what waits
-abbrev pub TakenFrom : {D : Type 0} → (D → Bool) → (D → List Disk) → ℕ → ℕ → Held D → List Op → Type 0
-TakenFrom tells past k place held ops =
-    (setup : Setup) (c : Cluster) → Stands tells past setup held c
+abbrev pub TakenFrom : {D : Type 0} → DiskFacts D → ℕ → ℕ → Held D → List Op → Type 0
+TakenFrom facts k place held ops =
+    (setup : Setup) (c : Cluster) → Stands facts setup held c
     → ops ≡ flat_map (λ (at : ℕ). ops_waiting k (c.queue (at + 1))) (take place held.active)
 
-module _ {D : Type 0} {tells : D → Bool} {past : D → List Disk} where
+module _ {D : Type 0} {facts : DiskFacts D} where
   pub taken-more : (k place at : ℕ) (held : Held D) (mids : List ClusterQueue) (event : Event) (before later : List Op)
       → AreRising held.active → place < length held.active → at < length held.queues.items
       → at ≡ get_or held.active place 0
       → TurnsWhere (active-front held.active place) event held.queues.items mids
-      → TakenFrom tells past k place held before → TakesAt k at mids before later
-      → TakenFrom tells past k (place + 1) held later
+      → TakenFrom facts k place held before → TakesAt k at mids before later → TakenFrom facts k (place + 1) held later
   taken-more k place at held mids event before later rising lt small is turns first second setup c st =
       by (slice_get_cases held.queues.items at).1
     where
@@ -238,8 +237,9 @@ module _ {D : Type 0} {tells : D → Bool} {past : D → List Disk} where
           ∙ ap (λ (n : ℕ). flat_map own (take place held.active) ++ own n) is
           ∙ one-more own held.active place lt
 
-  pub taken-all : (k place : ℕ) (held : Held D) (ops : List Op) → length held.active ≤ place → TakenFrom tells past k place held ops
-      → (setup : Setup) (c : Cluster) → Stands tells past setup held c
+  pub taken-all : (k place : ℕ) (held : Held D) (ops : List Op) → length held.active
+      ≤ place → TakenFrom facts k place held ops
+      → (setup : Setup) (c : Cluster) → Stands facts setup held c
       → ops ≡ flat_map (λ (at : ℕ). ops_waiting k (c.queue (at + 1))) held.active
   taken-all k place held ops le taken setup c st =
       taken setup c st
@@ -306,15 +306,14 @@ module _ {D : Type 0} where
       let many = turning.turns.many in
       omega (arith, below, here, many)
 
-pub record TakingTo {D : Type 0} (tells : D → Bool) (past : D → List Disk) (k place : ℕ) (old new : Held D)
-    (ops : List Op) : Type 0 where
+pub record TakingTo {D : Type 0} (facts : DiskFacts D) (k place : ℕ) (old new : Held D) (ops : List Op) : Type 0 where
   pub turning : TurningTo (Writes k) place old new
   pub may : All MayWrite ops
-  pub taken : (setup : Setup) (c : Cluster) → Stands tells past setup old c
+  pub taken : (setup : Setup) (c : Cluster) → Stands facts setup old c
       → ops ≡ flat_map (λ (at : ℕ). ops_waiting k (c.queue (at + 1))) (take place old.active)
 
-module _ {D : Type 0} {tells : D → Bool} {past : D → List Disk} where
-  pub taking-none : (k : ℕ) (held : Held D) (ops : List Op) → ops ≡ [] → TakingTo tells past k 0 held held ops
+module _ {D : Type 0} {facts : DiskFacts D} where
+  pub taking-none : (k : ℕ) (held : Held D) (ops : List Op) → ops ≡ [] → TakingTo facts k 0 held held ops
   taking-none k held ops none = record {
     turning = turning-none (Writes k) held;
     may = subst (All MayWrite) (sym none) (All-nil MayWrite);
@@ -323,14 +322,14 @@ module _ {D : Type 0} {tells : D → Bool} {past : D → List Disk} where
 
   pub taking-more : (k place at : ℕ) (old mid new : Held D) (before later : List Op) → AreRising old.active
       → AllByRecursion (λ (i : ℕ). i < length old.queues.items) old.active → place < length old.active
-      → at ≡ get_or mid.active place 0 → TakingTo tells past k place old mid before
+      → at ≡ get_or mid.active place 0 → TakingTo facts k place old mid before
       → new ≡ record mid { queues = new.queues } → TurnsAt (Writes k) at mid.queues.items new.queues.items
       → TakesAt k at mid.queues.items before later → (All MayWrite before → All MayWrite later)
-      → TakingTo tells past k (place + 1) old new later
+      → TakingTo facts k (place + 1) old new later
   taking-more k place at old mid new before later rising within lt is first same turns takes may = record {
     turning = turning-more (Writes k) place at old mid new rising lt is first.turning same turns;
     may = may first.may;
-    taken = taken-more {tells = tells} {past = past} k place at old mid.queues.items (Writes k) before later rising lt
+    taken = taken-more {facts = facts} k place at old mid.queues.items (Writes k) before later rising lt
         (let below = all-get (λ (i : ℕ). i < length old.queues.items) old.active place 0 within lt in
         let here = turning-at (Writes k) place at old mid first.turning is in
         omega (arith, below, here)) (turning-at (Writes k) place at old mid first.turning is) first.turning.turns first.taken
@@ -338,15 +337,15 @@ module _ {D : Type 0} {tells : D → Bool} {past : D → List Disk} where
   }
 
   pub taking-all : (k place : ℕ) (old new : Held D) (ops : List Op) → AreRising old.active → length old.active ≤ place
-      → TakingTo tells past k place old new ops → HasTaken tells past k old new ops
+      → TakingTo facts k place old new ops → HasTaken facts k old new ops
   taking-all k place old new ops rising le taking = record {
     turned = turning-all (Writes k) place old new rising le taking.turning;
     may = taking.may;
-    taken = taken-all {tells = tells} {past = past} k place old ops le taking.taken;
+    taken = taken-all {facts = facts} k place old ops le taking.taken;
   }
 
   pub taken-sound : (k : ℕ) (old new : Held D) (ops : List Op)
-      → All (λ (d : ClusterQueue). AreSound d.group) old.queues.items → HasTaken tells past k old new ops
+      → All (λ (d : ClusterQueue). AreSound d.group) old.queues.items → HasTaken facts k old new ops
       → All (λ (d : ClusterQueue). AreSound d.group) new.queues.items
   taken-sound k old new ops sound taken =
       turned-sound (λ (at : ℕ). is_in at old.active) (Writes k) old.queues.items new.queues.items sound

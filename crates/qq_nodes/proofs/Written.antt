@@ -9,7 +9,8 @@ use Rattle.qq_base.proofs.Lists.{AllByRecursion-weaker}
 use Rattle.qq_base.proofs.Puts.{put-same}
 use Rattle.qq_base.specs.declared.memory.Memory.{Memory}
 use Rattle.qq_base.specs.declared.memory.Memory.TheVariants.{Spent, Want}
-use Rattle.qq_disk.specs.Disk.{Disk, now}
+use Rattle.qq_disk.specs.Disk.{now}
+use Rattle.qq_disk.specs.Facts.{DiskFacts}
 use Rattle.qq_disk.proofs.Stored.{still_tells}
 use Rattle.qq_log.specs.Op.{queue}
 use Rattle.qq_log.specs.Stable.{stable}
@@ -78,39 +79,39 @@ waits-none k q n is =
     sym (untold-still (record q { group = group_after q.group (replicate n (Take k)) }))
     ∙ ap (λ (m : ℕ). record q { group = group_after q.group (replicate m (Take k)) }) is
 
-module _ {D : Type 0} {tells : D → Bool} {past : D → List Disk} {faults : D → ℕ} where
+module _ {D : Type 0} {facts : DiskFacts D} where
   -- a node that is down writes nothing
   pub write-down : (k : ℕ) (held : Held D) (outcome : Outcome)
-      → ((setup : Setup) (c : Cluster) → Stands tells past setup held c → false ≡ c.up k)
-      → Served tells past faults (λ setup. IsWrite setup k) held held outcome outcome
+      → ((setup : Setup) (c : Cluster) → Stands facts setup held c → false ≡ c.up k)
+      → Served facts (λ setup. IsWrite setup k) held held outcome outcome
   write-down k held outcome down =
       served-nothing held outcome
       (λ setup c r st. rule-else (c.up k && some_queue setup (waits_written k) c) (IsWritten k) IsNothing c []
       (ap (λ (b : Bool). b && some_queue setup (waits_written k) c) (sym (down setup c st))) refl)
 
-module _ {D : Type 0} {tells : D → Bool} {past : D → List Disk} where
+module _ {D : Type 0} {facts : DiskFacts D} where
   module _ (k : ℕ) (old mid : Held D) (ops : List Op) (low : 0 < k) (high : k ≤ length old.nodes.items)
-      (up : (setup : Setup) (c : Cluster) → Stands tells past setup old c → true ≡ c.up k)
-      (taken : HasTaken tells past k old mid ops) where
-    node-there : (setup : Setup) (c : Cluster) → Stands tells past setup old c → In k setup.nodes
+      (up : (setup : Setup) (c : Cluster) → Stands facts setup old c → true ≡ c.up k)
+      (taken : HasTaken facts k old mid ops) where
+    node-there : (setup : Setup) (c : Cluster) → Stands facts setup old c → In k setup.nodes
     node-there setup c st = node-in setup c old k st low high
 
-    is-up : (setup : Setup) (c : Cluster) → Stands tells past setup old c → c.up k ≡ true
+    is-up : (setup : Setup) (c : Cluster) → Stands facts setup old c → c.up k ≡ true
     is-up setup c st = sym (up setup c st)
 
-    all-ops : (setup : Setup) (c : Cluster) → IsReached setup c → Stands tells past setup old c
+    all-ops : (setup : Setup) (c : Cluster) → IsReached setup c → Stands facts setup old c
         → ops ≡ flat_map (waits_at setup c k) setup.places
     all-ops setup c r st =
         taken-places k old mid ops taken setup c r st (is-up setup c st) (node-there setup c st)
 
     -- a queue that isn't active is as it was
-    still : (setup : Setup) (c : Cluster) → Stands tells past setup old c → (at : ℕ) → at < length old.queues.items
+    still : (setup : Setup) (c : Cluster) → Stands facts setup old c → (at : ℕ) → at < length old.queues.items
         → is_in at old.active ≡ false → happens (c.queue (at + 1)) (Writes k) ≡ c.queue (at + 1)
     still setup c st at lt is =
         quiet-writes setup c.up (c.queue (at + 1)) k (node-there setup c st) (is-up setup c st) (st.quiet at lt is)
 
     -- the queues after the write
-    mid-queues : (setup : Setup) (c d : Cluster) → Stands tells past setup old c
+    mid-queues : (setup : Setup) (c d : Cluster) → Stands facts setup old c
         → ((at : ℕ) → at < length old.queues.items → d.queue (at + 1) ≡ happens (c.queue (at + 1)) (Writes k))
         → QueuesOf setup (standings old.sessions) d mid.queues.items
     mid-queues setup c d st written =
@@ -123,15 +124,15 @@ module _ {D : Type 0} {tells : D → Bool} {past : D → List Disk} where
 
     -- ---- nothing waits
 
-    pub write-none : (faults : D → ℕ) (outcome : Outcome) → ops ≡ []
-        → Served tells past faults (λ setup. IsWrite setup k) old mid outcome outcome
-    write-none faults outcome none =
+    pub write-none : (outcome : Outcome) → ops ≡ []
+        → Served facts (λ setup. IsWrite setup k) old mid outcome outcome
+    write-none outcome none =
         served-still old mid outcome same-nodes
         (λ setup c r st. (
           rule-else (c.up k && some_queue setup (waits_written k) c) (IsWritten k) IsNothing c []
               (and_right (c.up k) (some_queue setup (waits_written k) c)
               (none-written setup c k setup.places (sym (all-ops setup c r st) ∙ none))) refl,
-          subst (λ (h : Held D). Stands tells past setup h c) (sym taken.turned.same) (record {
+          subst (λ (h : Held D). Stands facts setup h c) (sym taken.turned.same) (record {
             set_up = subst (λ (n : ℕ). IsSetUp setup n (length old.nodes.items)) (sym taken.turned.turns.many) st.set_up;
             queues = mid-queues setup c c st (λ at lt. sym (waits-none k (c.queue (at + 1))
                 (waiting k (c.queue (at + 1)).group)
@@ -148,14 +149,13 @@ module _ {D : Type 0} {tells : D → Bool} {past : D → List Disk} where
 
     -- ---- the log takes the ops
 
-    all-waiting : (setup : Setup) (c : Cluster) → IsReached setup c → Stands tells past setup old c
-        → AllWait setup c k ops
+    all-waiting : (setup : Setup) (c : Cluster) → IsReached setup c → Stands facts setup old c → AllWait setup c k ops
     all-waiting setup c r st =
         subst (AllWait setup c k)
         (sym (taken-waiting k old mid ops taken setup c r st (is-up setup c st) (node-there setup c st)))
         (all-wait setup c k st.set_up.groups st.set_up.own r (apart-places setup c old st))
 
-    may-give : GoesOn → (setup : Setup) (c : Cluster) → IsReached setup c → Stands tells past setup old c
+    may-give : GoesOn → (setup : Setup) (c : Cluster) → IsReached setup c → Stands facts setup old c
         → MayGive (lot_of setup k) (parts_at c k) ops
     may-give goes setup c r st = record {
       write = taken.may;
@@ -168,10 +168,10 @@ module _ {D : Type 0} {tells : D → Bool} {past : D → List Disk} where
     was-here : (x : Node D) → slice_get mid.nodes.items (k - 1) ≡ Some x → slice_get old.nodes.items (k - 1) ≡ Some x
     was-here x here = sym (ap (λ (v : Vec (Node D)). slice_get v.items (k - 1)) same-nodes) ∙ here
 
-    pub may-append : GoesOn → CanServe tells past old → (x : Node D) → slice_get mid.nodes.items (k - 1) ≡ Some x
-        → MayAppendAt tells past ops x
+    pub may-append : GoesOn → CanServe facts old → (x : Node D) → slice_get mid.nodes.items (k - 1) ≡ Some x
+        → MayAppendAt facts ops x
     may-append goes (setup, c, r, st) x here =
-        let was : IsNodeOf tells past setup c k x = node-was setup c old k x st low (was-here x here) in
+        let was : IsNodeOf facts setup c k x = node-was setup c old k x st low (was-here x here) in
         record {
           own = was.own;
           is = was.log_is;
@@ -179,7 +179,7 @@ module _ {D : Type 0} {tells : D → Bool} {past : D → List Disk} where
         }
 
     -- some queue has something that waits
-    some-waits : (setup : Setup) (c : Cluster) → IsReached setup c → Stands tells past setup old c
+    some-waits : (setup : Setup) (c : Cluster) → IsReached setup c → Stands facts setup old c
         → (ops ≡ [] → ⊥) → (c.up k && some_queue setup (waits_written k) c) ≡ true
     some-waits setup c r st some =
         and_from (c.up k) (some_queue setup (waits_written k) c) (is-up setup c st)
@@ -189,10 +189,10 @@ module _ {D : Type 0} {tells : D → Bool} {past : D → List Disk} where
 
     -- the log goes on with what the node's log was given
     goes-on : (setup : Setup) (c : Cluster) (log : NodeLog D) → AllWait setup c k ops
-        → IsRunningIn tells past (lot_of setup k) (give_batch (lot_of setup k) ops (parts_at c k)) log
-        → IsRunningIn tells past (lot_of setup k) (parts_at (cluster_happens c (NodeWrites k)) k) log
+        → IsRunningIn facts (lot_of setup k) (give_batch (lot_of setup k) ops (parts_at c k)) log
+        → IsRunningIn facts (lot_of setup k) (parts_at (cluster_happens c (NodeWrites k)) k) log
     goes-on setup c log waits running =
-        running-same tells past (lot_of setup k) (give_batch (lot_of setup k) ops (parts_at c k))
+        running-same facts (lot_of setup k) (give_batch (lot_of setup k) ops (parts_at c k))
         (parts_at (cluster_happens c (NodeWrites k)) k) log
         (AllByRecursion-weaker
         (λ (place : ℕ). ops_at (lot_of setup k) place ops ≡ ops_waiting k (c.queue place))
@@ -202,22 +202,22 @@ module _ {D : Type 0} {tells : D → Bool} {past : D → List Disk} where
         ∙ ap (λ (own : List Op). ((c.queue place).group.seat k).ops ++ own) (sym is)) (lot_of setup k).places waits)
         running
 
-    pub written : (faults : D → ℕ) (nodes : Vec (Node D)) (outcome : Outcome) → (ops ≡ [] → ⊥)
-        → NodeTurns (Appends tells past faults ops true) (k - 1) mid.nodes.items nodes.items
-        → Served tells past faults (λ setup. IsWrite setup k) old (record mid { nodes = nodes }) outcome outcome
-    written faults nodes outcome some turn = record {
+    pub written : (nodes : Vec (Node D)) (outcome : Outcome) → (ops ≡ [] → ⊥)
+        → NodeTurns (Appends facts ops true) (k - 1) mid.nodes.items nodes.items
+        → Served facts (λ setup. IsWrite setup k) old (record mid { nodes = nodes }) outcome outcome
+    written nodes outcome some turn = record {
       serves = λ setup c r st.
           (let d : Cluster = cluster_happens c (NodeWrites k) in
           let new : Held D = record mid { nodes = nodes } in
           let here : slice_get old.nodes.items (k - 1) ≡ Some turn.old = was-here turn.old turn.here in
-          let was : IsNodeOf tells past setup c k turn.old = node-was setup c old k turn.old st low here in
+          let was : IsNodeOf facts setup c k turn.old = node-was setup c old k turn.old st low here in
           let ch = turn.turns.change in
           let later : Lot → Parts → Parts = λ lot. give_batch lot ops in
           let is : nodes.items ≡ slice_set old.nodes.items (k - 1) turn.new =
           turn.is ∙ ap (λ (v : Vec (Node D)). slice_set v.items (k - 1) turn.new) same-nodes in
           let waits : AllWait setup c k ops = all-waiting setup c r st in
           let runs = turn.turns.runs refl in
-          let running : IsRunningIn tells past (lot_of setup k) (parts_at c k) ch.before =
+          let running : IsRunningIn facts (lot_of setup k) (parts_at c k) ch.before =
           log-runs setup c k turn.old turn.new later was (is-up setup c st) ch in
           call-serves setup c k (NodeWrites k ∷ []) old new turn.old turn.new turn.new later (own-write k, tt) low here is
           was (is-up setup c st) ch (ap (λ (y : Node D). y.log) ch.is) (IsWrite setup k c) outcome outcome
@@ -232,7 +232,7 @@ module _ {D : Type 0} {tells : D → Bool} {past : D → List Disk} where
             nodes = is;
             many = taken.turned.turns.many;
           }) st
-          (subst (IsNodeOf tells past setup d k) (sym ch.is) (record {
+          (subst (IsNodeOf facts setup d k) (sym ch.is) (record {
             id_is = was.id_is;
             few = was.few;
             up_is = was.up_is;
@@ -249,24 +249,25 @@ module _ {D : Type 0} {tells : D → Bool} {past : D → List Disk} where
           (mid-queues setup c d st (λ at lt. refl)) refl
           (λ at lt calm. ap (is_quiet setup c.up) (still setup c st at lt calm) ∙ st.quiet at lt calm))
           (same-outcome outcome)
-          (λ told linked. written-traced setup c k ops (past (disk_in ch.before)) (past (disk_in ch.behind)) waits linked
+          (λ told linked. written-traced setup c k ops
+          (facts.past (disk_in ch.before)) (facts.past (disk_in ch.behind)) waits linked
           (log-moments setup c k turn.old turn.new later was (is-up setup c st) ch told linked).0
           (runs.tied (lot_of setup k) (parts_at c k) running told (linked.tied (is-up setup c st)))));
     }
 
     -- ---- the disk failed
 
-    pub write-failed : (faults : D → ℕ) (nodes : Vec (Node D)) (last : Held D) (before after : Outcome) → (ops ≡ [] → ⊥)
-        → NodeTurns (Appends tells past faults ops false) (k - 1) mid.nodes.items nodes.items
+    pub write-failed : (nodes : Vec (Node D)) (last : Held D) (before after : Outcome) → (ops ≡ [] → ⊥)
+        → NodeTurns (Appends facts ops false) (k - 1) mid.nodes.items nodes.items
         → HasStopped k (record mid { nodes = nodes }) last
         → after ≡ with_line (codes "node " ++ decimal k ++ codes " stopped\n") before
-        → Served tells past faults (λ setup. IsWrite setup k) old last before after
-    write-failed faults nodes last before after some turn stopped says = record {
+        → Served facts (λ setup. IsWrite setup k) old last before after
+    write-failed nodes last before after some turn stopped says = record {
       serves = λ setup c r st.
           (let events : List ClusterEvent = NodeWrites k ∷ Fails k ∷ [] in
           let d : Cluster = cluster_happens c (NodeWrites k) in
           let here : slice_get old.nodes.items (k - 1) ≡ Some turn.old = was-here turn.old turn.here in
-          let was : IsNodeOf tells past setup c k turn.old = node-was setup c old k turn.old st low here in
+          let was : IsNodeOf facts setup c k turn.old = node-was setup c old k turn.old st low here in
           let ch = turn.turns.change in
           let later : Lot → Parts → Parts = λ lot. give_batch lot ops in
           let first : nodes.items ≡ slice_set old.nodes.items (k - 1) turn.new =
@@ -290,7 +291,7 @@ module _ {D : Type 0} {tells : D → Bool} {past : D → List Disk} where
             nodes = is;
             many = stopped.queues.many ∙ taken.turned.turns.many;
           }) st
-          (subst (λ (y : Node D). IsNodeOf tells past setup (cluster_happens d (Fails k)) k (record y { up = false }))
+          (subst (λ (y : Node D). IsNodeOf facts setup (cluster_happens d (Fails k)) k (record y { up = false }))
           (sym ch.is)
           (record {
             id_is = was.id_is;
@@ -311,72 +312,71 @@ module _ {D : Type 0} {tells : D → Bool} {past : D → List Disk} where
           (λ at lt calm. quiet-stopped setup c.up (happens (c.queue (at + 1)) (Writes k)) k
           (ap (is_quiet setup c.up) (still setup c st at lt calm) ∙ st.quiet at lt calm)))
           (says ∙ line-outcome (codes "node " ++ decimal k ++ codes " stopped\n") before)
-          (λ told linked. write_failed-traced setup c k ops (past (disk_in ch.before)) (past (disk_in ch.behind)) waits
+          (λ told linked. write_failed-traced setup c k ops
+          (facts.past (disk_in ch.before)) (facts.past (disk_in ch.behind)) waits
           linked (log-moments setup c k turn.old turn.new later was (is-up setup c st) ch told linked).0));
     }
 
     -- ---- it is given up
 
-    left : (faults : D → ℕ) (setup : Setup) (c : Cluster) (r : IsReached setup c) (st : Stands tells past setup old c)
-        (nodes : Vec (Node D)) (new : Held D) (P : Node D → Node D → Type 0)
+    left : (setup : Setup) (c : Cluster) (r : IsReached setup c) (st : Stands facts setup old c) (nodes : Vec (Node D))
+        (new : Held D) (P : Node D → Node D → Type 0)
         (turn : NodeTurns P (k - 1) mid.nodes.items nodes.items)
-        → new.nodes ≡ nodes → ChangesLog tells past faults (λ (lot : Lot). give_batch lot ops) turn.old turn.new
-        → GivesUp setup c (seen tells past faults old) (seen tells past faults new)
-    left faults setup c r st nodes new P turn same ch =
+        → new.nodes ≡ nodes → ChangesLog facts (λ (lot : Lot). give_batch lot ops) turn.old turn.new
+        → GivesUp setup c (seen facts old) (seen facts new)
+    left setup c r st nodes new P turn same ch =
         let here : slice_get old.nodes.items (k - 1) ≡ Some turn.old = was-here turn.old turn.here in
-        let was : IsNodeOf tells past setup c k turn.old = node-was setup c old k turn.old st low here in
+        let was : IsNodeOf facts setup c k turn.old = node-was setup c old k turn.old st low here in
         let later : Lot → Parts → Parts = λ lot. give_batch lot ops in
         let is : new.nodes.items ≡ slice_set old.nodes.items (k - 1) turn.new =
         ap (λ (v : Vec (Node D)). v.items) same ∙ turn.is
         ∙ ap (λ (v : Vec (Node D)). slice_set v.items (k - 1) turn.new) same-nodes in
         call-gives_up setup c k (NodeWrites k ∷ []) old new turn.old turn.new turn.new later (own-write k, tt) low here is
         was (is-up setup c st) ch (ap (λ (y : Node D). y.log) ch.is)
-        (λ told linked. write-broken setup c k ops (past (disk_in ch.before)) (past (disk_in ch.behind))
+        (λ told linked. write-broken setup c k ops (facts.past (disk_in ch.before)) (facts.past (disk_in ch.behind))
         (all-waiting setup c r st) linked
         (log-moments setup c k turn.old turn.new later was (is-up setup c st) ch told linked).0)
 
-    left-logs : (faults : D → ℕ) (setup : Setup) (c : Cluster) (st : Stands tells past setup old c)
-        (nodes : Vec (Node D)) (P : Node D → Node D → Type 0)
+    left-logs : (setup : Setup) (c : Cluster) (st : Stands facts setup old c) (nodes : Vec (Node D))
+        (P : Node D → Node D → Type 0)
         (turn : NodeTurns P (k - 1) mid.nodes.items nodes.items)
-        → ChangesLog tells past faults (λ (lot : Lot). give_batch lot ops) turn.old turn.new
-        → HaveLogs setup nodes.items
-    left-logs faults setup c st nodes P turn ch =
+        → ChangesLog facts (λ (lot : Lot). give_batch lot ops) turn.old turn.new → HaveLogs setup nodes.items
+    left-logs setup c st nodes P turn ch =
         logs-with setup mid.nodes.items nodes.items (k - 1) turn.new ch.behind turn.is
         (ap (λ (y : Node D). y.log) ch.is) (same-logs setup old.nodes mid.nodes same-nodes (stands-logs setup old c st))
 
     -- the file is too long, or there was no memory
-    pub write-spent : (faults : D → ℕ) (nodes : Vec (Node D)) (memory : Memory)
-        → NodeTurns (AppendsInPart tells past faults ops memory) (k - 1) mid.nodes.items nodes.items
-        → GaveUp tells past faults (λ setup. IsWrite setup k) old (record mid { nodes = nodes }) memory
-    write-spent faults nodes memory turn = record {
+    pub write-spent : (nodes : Vec (Node D)) (memory : Memory)
+        → NodeTurns (AppendsInPart facts ops memory) (k - 1) mid.nodes.items nodes.items
+        → GaveUp facts (λ setup. IsWrite setup k) old (record mid { nodes = nodes }) memory
+    write-spent nodes memory turn = record {
       gives_up = λ setup c r st.
-          left faults setup c r st nodes (record mid { nodes = nodes }) (AppendsInPart tells past faults ops memory) turn refl
+          left setup c r st nodes (record mid { nodes = nodes }) (AppendsInPart facts ops memory) turn refl
           turn.turns.change;
       logs = λ setup c r st.
-          left-logs faults setup c st nodes (AppendsInPart tells past faults ops memory) turn turn.turns.change;
+          left-logs setup c st nodes (AppendsInPart facts ops memory) turn turn.turns.change;
       spent = λ number is setup c r st.
           (let long : IsLongIn turn.turns.change.behind (Spent number) =
           subst (IsLongIn turn.turns.change.behind) is turn.turns.long in
           let more : Allowed (IsWrite setup k) c = total-write setup k c in
-          let ch : ChangesLog tells past faults (λ (lot : Lot). give_batch lot ops) turn.old turn.new =
+          let ch : ChangesLog facts (λ (lot : Lot). give_batch lot ops) turn.old turn.new =
           turn.turns.change in
           ends-now setup (IsWrite setup k) old c number st more
           (InFile (k - 1) ch.before (disk_in ch.behind)
           (record { node = turn.old; here = was-here turn.old turn.here; is = ch.was }) ch.later
-          (λ tell. subst (λ (m : Memory). IsLongOn m (now (past (disk_in ch.behind)))) is
+          (λ tell. subst (λ (m : Memory). IsLongOn m (now (facts.past (disk_in ch.behind)))) is
           (turn.turns.shown (still_tells (sym ch.later.told) tell))))
           (long-ends ch.behind number long));
     }
 
     -- the disk failed, and there was no memory to say so
-    pub write-wants : (faults : D → ℕ) (nodes : Vec (Node D)) (memory : Memory)
-        → NodeTurns (Appends tells past faults ops false) (k - 1) mid.nodes.items nodes.items → memory ≡ Want
-        → GaveUp tells past faults (λ setup. IsWrite setup k) old (record mid { nodes = nodes }) memory
-    write-wants faults nodes memory turn want = record {
+    pub write-wants : (nodes : Vec (Node D)) (memory : Memory)
+        → NodeTurns (Appends facts ops false) (k - 1) mid.nodes.items nodes.items → memory ≡ Want
+        → GaveUp facts (λ setup. IsWrite setup k) old (record mid { nodes = nodes }) memory
+    write-wants nodes memory turn want = record {
       gives_up = λ setup c r st.
-          left faults setup c r st nodes (record mid { nodes = nodes }) (Appends tells past faults ops false) turn refl
-          turn.turns.change;
+          left setup c r st nodes (record mid { nodes = nodes }) (Appends facts ops false) turn refl turn.turns.change;
       logs = λ setup c r st.
-          left-logs faults setup c st nodes (Appends tells past faults ops false) turn turn.turns.change;
+          left-logs setup c st nodes (Appends facts ops false) turn turn.turns.change;
       spent = λ number is. absurd (let e : Want ≡ Spent number = sym want ∙ is in cc);
     }

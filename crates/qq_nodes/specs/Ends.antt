@@ -1,10 +1,11 @@
 -- Which number of which part stands at its end, where a call is given up for it.
-use Rattle.std.specs.Prelude.{◌≡◌, ◌⊎◌, ◌≤◌, ℕ, Bool, List, Some, slice_get, IsTrue}
+use Rattle.std.specs.Prelude.{◌≡◌, ◌⊎◌, ◌≤◌, ℕ, List, Some, slice_get, IsTrue}
 use Rattle.qq_base.specs.Ids.{client}
 use Rattle.qq_base.specs.declared.memory.Memory.{Memory}
 use Rattle.qq_base.specs.declared.memory.Memory.TheVariants.{Want, Spent}
 use Rattle.qq_base.specs.declared.memory.TheConstants.{NUMBER_END}
-use Rattle.qq_disk.specs.Disk.{Disk, now}
+use Rattle.qq_disk.specs.Disk.{now}
+use Rattle.qq_disk.specs.Facts.{DiskFacts}
 use Rattle.qq_entry.specs.declared.command.Command.TheVariants.{Down as DownOf}
 use Rattle.qq_group.specs.Reads.{leader_of}
 use Rattle.qq_group.specs.declared.event.Event.TheVariants as events
@@ -56,13 +57,13 @@ pub record HasLog {D : Type 0} (at : ℕ) (held : Held D) (own : NodeLog D) : Ty
 
 -- What the number is of: a queue that refuses what is asked of it; a node's log, whose disk after a call has a long
 -- file, or the last one; or the files of a node's log, which are to be recovered.
-pub data NumberAt {D : Type 0} (tells : D → Bool) (past : D → List Disk) (held : Held D) (number : ℕ) : Type 0 where
+pub data NumberAt {D : Type 0} (facts : DiskFacts D) (held : Held D) (number : ℕ) : Type 0 where
   InQueue : (at : ℕ) (ask : Ask) → IsRefusedAt ask at held.queues.items (Spent number)
-      → NumberAt tells past held number
-  InFile : (at : ℕ) (own : NodeLog D) (left : D) → HasLog at held own → IsLater tells past (disk_in own) left
-      → (IsTrue (tells left) → HasLongLog number (now (past left))) → NumberAt tells past held number
-  InNumbers : (at : ℕ) (own : NodeLog D) (left : D) → HasLog at held own → IsLater tells past (disk_in own) left
-      → (IsTrue (tells left) → HasLastLog number (now (past left))) → NumberAt tells past held number
+      → NumberAt facts held number
+  InFile : (at : ℕ) (own : NodeLog D) (left : D) → HasLog at held own → IsLater facts (disk_in own) left
+      → (IsTrue (facts.tells left) → HasLongLog number (now (facts.past left))) → NumberAt facts held number
+  InNumbers : (at : ℕ) (own : NodeLog D) (left : D) → HasLog at held own → IsLater facts (disk_in own) left
+      → (IsTrue (facts.tells left) → HasLastLog number (now (facts.past left))) → NumberAt facts held number
   OnDisk : (at : ℕ) (own : NodeLog D) → HasLog at held own
-      → (IsTrue (tells (disk_in own)) → IsSpentOn (now (past (disk_in own))) (OfMemory (Spent number)))
-      → NumberAt tells past held number
+      → (IsTrue (facts.tells (disk_in own)) → IsSpentOn (now (facts.past (disk_in own))) (OfMemory (Spent number)))
+      → NumberAt facts held number

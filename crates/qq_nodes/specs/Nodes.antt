@@ -1,11 +1,11 @@
 -- Nodes as their calls see them: which cluster they stand for, and what a call has done.
-use Rattle.std.specs.Prelude.{◌≡◌, ◌<◌, ◌≤◌, ◌+◌, ℕ, zero, suc, Bool, true, false, List, [], ◌++◌, Option, Some, None, drop, length, slice_get}
+use Rattle.std.specs.Prelude.{◌≡◌, ◌<◌, ◌≤◌, ◌+◌, ℕ, zero, suc, true, false, List, [], ◌++◌, Option, Some, None, drop, length, slice_get}
 use Rattle.std.specs.List.{AllByRecursion, range_with_len}
 use Rattle.qq_base.specs.declared.ids.NodeId.{NodeId}
 use Rattle.qq_base.specs.declared.ids.QueueId.{QueueId}
 use Rattle.qq_base.specs.declared.memory.Memory.{Memory}
 use Rattle.qq_base.specs.declared.memory.Memory.TheVariants.{Spent}
-use Rattle.qq_disk.specs.Disk.{Disk}
+use Rattle.qq_disk.specs.Facts.{DiskFacts}
 use Rattle.qq_cluster.specs.Cluster.{Cluster, ClusterEvent, Setup, members}
 use Rattle.qq_cluster.specs.ClusterLaws.{HasGroups}
 use Rattle.qq_cluster.specs.Outcome.{Outcome}
@@ -31,21 +31,21 @@ use Rattle.qq_nodes.specs.declared.nodes.Nodes.{Nodes as Held}
 -- ---- the disks
 
 -- what a clause sees of a node's disk; where there is no log, or no such node, it sees nothing
-abbrev pub seen_log : {D : Type 0} → (D → Bool) → (D → List Disk) → (D → ℕ) → Option (NodeLog D) → Seen
-seen_log tells past faults None = record { tells = false; past = []; faults = 0 }
-seen_log tells past faults (Some log) = seen_of tells past faults (disk_in log)
+abbrev pub seen_log : {D : Type 0} → DiskFacts D → Option (NodeLog D) → Seen
+seen_log facts None = record { tells = false; past = []; faults = 0 }
+seen_log facts (Some log) = seen_of facts (disk_in log)
 
-abbrev pub seen_in : {D : Type 0} → (D → Bool) → (D → List Disk) → (D → ℕ) → Option (Node D) → Seen
-seen_in tells past faults None = record { tells = false; past = []; faults = 0 }
-seen_in tells past faults (Some node) = seen_log tells past faults node.log
+abbrev pub seen_in : {D : Type 0} → DiskFacts D → Option (Node D) → Seen
+seen_in facts None = record { tells = false; past = []; faults = 0 }
+seen_in facts (Some node) = seen_log facts node.log
 
 -- nodes are numbered from 1
 abbrev pub node_at : {D : Type 0} → ℕ → List (Node D) → Option (Node D)
 node_at zero nodes = None
 node_at (suc at) nodes = slice_get nodes at
 
-abbrev pub seen : {D : Type 0} → (D → Bool) → (D → List Disk) → (D → ℕ) → Held D → ℕ → Seen
-seen tells past faults held k = seen_in tells past faults (node_at k held.nodes.items)
+abbrev pub seen : {D : Type 0} → DiskFacts D → Held D → ℕ → Seen
+seen facts held k = seen_in facts (node_at k held.nodes.items)
 
 -- ---- the cluster
 
@@ -71,7 +71,7 @@ pub record IsQueueOf (setup : Setup) (sessions : Standings) (c : Cluster) (place
 
 -- A node is the one of this number, and as it stands there. Where it is marked as empty it is down, and its log has nothing of
 -- its queues.
-pub record IsNodeOf {D : Type 0} (tells : D → Bool) (past : D → List Disk) (setup : Setup) (c : Cluster) (k : ℕ)
+pub record IsNodeOf {D : Type 0} (facts : DiskFacts D) (setup : Setup) (c : Cluster) (k : ℕ)
     (node : Node D) : Type 0 where
   pub id_is : node.id.0 ≡ k
   pub few : k ≤ NODE_LIMIT
@@ -81,24 +81,23 @@ pub record IsNodeOf {D : Type 0} (tells : D → Bool) (past : D → List Disk) (
   pub members : MembersFollow setup c k
   pub own : NodeLog D
   pub log_is : node.log ≡ Some own
-  pub log : IsLog tells past (lot_of setup k) (parts_at c k) (c.up k) own
+  pub log : IsLog facts (lot_of setup k) (parts_at c k) (c.up k) own
 
 -- They stand for a cluster of this setup: its queues and its nodes in their order. Each queue that isn't active is quiet.
-pub record Stands {D : Type 0} (tells : D → Bool) (past : D → List Disk) (setup : Setup) (held : Held D) (c : Cluster)
-    : Type 0 where
+pub record Stands {D : Type 0} (facts : DiskFacts D) (setup : Setup) (held : Held D) (c : Cluster) : Type 0 where
   pub set_up : IsSetUp setup (length held.queues.items) (length held.nodes.items)
   pub queues : (at : ℕ) (d : ClusterQueue) → slice_get held.queues.items at ≡ Some d
       → IsQueueOf setup (standings held.sessions) c (at + 1) d
   pub nodes : (at : ℕ) (node : Node D) → slice_get held.nodes.items at ≡ Some node
-      → IsNodeOf tells past setup c (at + 1) node
+      → IsNodeOf facts setup c (at + 1) node
   pub auto : held.auto ≡ c.auto
   pub within : AllByRecursion (λ (at : ℕ). at < length held.queues.items) held.active
   pub quiet : (at : ℕ) → at < length held.queues.items → is_in at held.active ≡ false
       → is_quiet setup c.up (c.queue (at + 1)) ≡ true
 
 -- they stand for a cluster that something may have led to
-abbrev pub CanServe : {D : Type 0} → (D → Bool) → (D → List Disk) → Held D → Type 0
-CanServe tells past held = (setup : Setup) × (c : Cluster) × IsReached setup c × Stands tells past setup held c
+abbrev pub CanServe : {D : Type 0} → DiskFacts D → Held D → Type 0
+CanServe facts held = (setup : Setup) × (c : Cluster) × IsReached setup c × Stands facts setup held c
 
 -- ---- the nodes' logs
 
@@ -122,11 +121,10 @@ IsQueueAt queue held = (0 < queue.0) × (queue.0 ≤ length held.queues.items)
 -- ---- what a call has done
 
 -- of whatever cluster they stood for, what has happened is what a rule allows there, and they stand for the cluster after it
-pub record Served {D : Type 0} (tells : D → Bool) (past : D → List Disk) (faults : D → ℕ)
-    (Rule : Setup → Cluster → List ClusterEvent → Type 0) (old new : Held D) (before later : Outcome) : Type 0 where
-  pub serves : (setup : Setup) (c : Cluster) → IsReached setup c → Stands tells past setup old c
-      → Serves setup c (Rule setup c) (Stands tells past setup new) (seen tells past faults old)
-      (seen tells past faults new) before later
+pub record Served {D : Type 0} (facts : DiskFacts D) (Rule : Setup → Cluster → List ClusterEvent → Type 0)
+    (old new : Held D) (before later : Outcome) : Type 0 where
+  pub serves : (setup : Setup) (c : Cluster) → IsReached setup c → Stands facts setup old c
+      → Serves setup c (Rule setup c) (Stands facts setup new) (seen facts old) (seen facts new) before later
 
 -- ---- what a call leaves that is given up
 
@@ -138,26 +136,25 @@ pub record Begins (Allows : Cluster → List ClusterEvent → Type 0) (c : Clust
 
 -- In the midst of what a rule allows a number would have to rise, and stands at its end: some first events have
 -- happened, and nodes that stand for the cluster after them have it. Each one's disk is what these events made of it.
-pub record EndsAt {D : Type 0} (tells : D → Bool) (past : D → List Disk) (faults : D → ℕ) (setup : Setup)
-    (Allows : Cluster → List ClusterEvent → Type 0) (old : Held D) (c : Cluster) (number : ℕ) : Type 0 where
+pub record EndsAt {D : Type 0} (facts : DiskFacts D) (setup : Setup) (Allows : Cluster → List ClusterEvent → Type 0)
+    (old : Held D) (c : Cluster) (number : ℕ) : Type 0 where
   pub mid : Held D
   pub before : Outcome
   pub said : Outcome
-  pub serves : Serves setup c (Begins Allows c) (Stands tells past setup mid) (seen tells past faults old)
-      (seen tells past faults mid) before said
-  pub at : NumberAt tells past mid number
+  pub serves : Serves setup c (Begins Allows c) (Stands facts setup mid) (seen facts old) (seen facts mid) before said
+  pub at : NumberAt facts mid number
   pub end : IsAtEnd number
 
 -- Of whatever cluster they stood for, each disk keeps at each moment what the events so far promised, and is still in
 -- its node's log. Where it isn't that there was no memory, a number stands at its end.
-pub record GaveUp {D : Type 0} (tells : D → Bool) (past : D → List Disk) (faults : D → ℕ)
-    (Rule : Setup → Cluster → List ClusterEvent → Type 0) (old new : Held D) (memory : Memory) : Type 0 where
-  pub gives_up : (setup : Setup) (c : Cluster) → IsReached setup c → Stands tells past setup old c
-      → GivesUp setup c (seen tells past faults old) (seen tells past faults new)
-  pub logs : (setup : Setup) (c : Cluster) → IsReached setup c → Stands tells past setup old c
+pub record GaveUp {D : Type 0} (facts : DiskFacts D) (Rule : Setup → Cluster → List ClusterEvent → Type 0)
+    (old new : Held D) (memory : Memory) : Type 0 where
+  pub gives_up : (setup : Setup) (c : Cluster) → IsReached setup c → Stands facts setup old c
+      → GivesUp setup c (seen facts old) (seen facts new)
+  pub logs : (setup : Setup) (c : Cluster) → IsReached setup c → Stands facts setup old c
       → HaveLogs setup new.nodes.items
   pub spent : (number : ℕ) → memory ≡ Spent number → (setup : Setup) (c : Cluster) → IsReached setup c
-      → Stands tells past setup old c → EndsAt tells past faults setup (Rule setup) old c number
+      → Stands facts setup old c → EndsAt facts setup (Rule setup) old c number
 
 -- ---- loops
 

@@ -3,7 +3,7 @@ use Rattle.std.specs.Prelude.{◌≡◌, ◌<◌, ◌≤◌, ◌+◌, ◌^◌, �
 use Rattle.std.specs.List.{list_any}
 use Rattle.qq_base.specs.declared.ids.NodeId.{NodeId}
 use Rattle.qq_base.specs.declared.ids.QueueId.{QueueId}
-use Rattle.qq_disk.specs.Disk.{Disk}
+use Rattle.qq_disk.specs.Facts.{DiskFacts}
 use Rattle.qq_group.specs.Group.{server_at}
 use Rattle.qq_group.specs.Opening.{IsAllDown}
 use Rattle.qq_log.specs.declared.limits.TheConstants.{NODE_LIMIT}
@@ -38,14 +38,14 @@ pub record IsSetupOver (setup : Setup) (rows : List QueueRow) (node_count : ℕ)
   pub each : (at : ℕ) (row : QueueRow) → slice_get rows at ≡ Some row → IsRowOf setup (at + 1) row
 
 -- a disk that tells its contents may be recovered as the log of whatever queues, as a new one may be
-abbrev pub IsWhole : {D : Type 0} → (D → Bool) → (D → List Disk) → D → Type 0
-IsWhole tells past disk = (queues : List QueueId) → MayBeLog tells past queues disk
+abbrev pub IsWhole : {D : Type 0} → DiskFacts D → D → Type 0
+IsWhole facts disk = (queues : List QueueId) → MayBeLog facts queues disk
 
 -- each node has its disk, in their order
-abbrev pub HaveDisks : {D : Type 0} → (D → Bool) → (D → List Disk) → (D → ℕ) → List D → Held D → Type 0
-HaveDisks {D} tells past faults disks held =
+abbrev pub HaveDisks : {D : Type 0} → DiskFacts D → List D → Held D → Type 0
+HaveDisks {D} facts disks held =
     (at : ℕ) (disk : D) → slice_get disks at ≡ Some disk
-    → seen tells past faults held (at + 1) ≡ seen_of tells past faults disk
+    → seen facts held (at + 1) ≡ seen_of facts disk
 
 -- ---- how they are made
 
@@ -92,14 +92,14 @@ pub record AreNodesFor {D : Type 0} (rows : List QueueRow) (disks : List D) (nod
 
 -- Nodes that weren't opened yet, over disks that may be recovered, and a queue for each row. There are logs over which these
 -- may be opened.
-pub record AreNew {D : Type 0} (tells : D → Bool) (past : D → List Disk) (rows : List QueueRow) (held : Held D) : Type 0
+pub record AreNew {D : Type 0} (facts : DiskFacts D) (rows : List QueueRow) (held : Held D) : Type 0
   where
     pub set : (setup : Setup) × IsSetupOver setup rows (length held.nodes.items)
     pub queues : AreQueuesFor rows held.queues.items
     pub disks : List D
     pub nodes : AreNodesFor rows disks held.nodes.items
     pub few : length disks ≤ NODE_LIMIT
-    pub whole : All (IsWhole tells past) disks
+    pub whole : All (IsWhole facts) disks
     pub sessions : held.sessions ≡ []
     pub active : held.active ≡ []
     pub auto : held.auto ≡ true

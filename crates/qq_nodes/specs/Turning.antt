@@ -1,7 +1,7 @@
 -- What an event of a node's log makes of the queues.
 use Rattle.std.specs.Prelude.{◌≡◌, ◌+◌, ◌-◌, ℕ, Bool, true, false, List, ◌++◌, Some, All, length, nat_lt, slice_get, slice_set}
 use Rattle.std.specs.List.{flat_map}
-use Rattle.qq_disk.specs.Disk.{Disk}
+use Rattle.qq_disk.specs.Facts.{DiskFacts}
 use Rattle.qq_log.specs.Writable.{MayWrite}
 use Rattle.qq_log.specs.declared.op.Op.{Op}
 use Rattle.qq_cluster.specs.Cluster.{Cluster, Setup}
@@ -50,11 +50,10 @@ TakesAt k at queues before later =
     → OfItsQueue d (λ q. later ≡ before ++ waiting_ops (q.group.seat k).server)
 
 -- each active queue has handed out what waits at a node, in their order
-pub record HasTaken {D : Type 0} (tells : D → Bool) (past : D → List Disk) (k : ℕ) (old new : Held D) (ops : List Op)
-    : Type 0 where
+pub record HasTaken {D : Type 0} (facts : DiskFacts D) (k : ℕ) (old new : Held D) (ops : List Op) : Type 0 where
   pub turned : HasTurned (Writes k) old new
   pub may : All MayWrite ops
-  pub taken : (setup : Setup) (c : Cluster) → Stands tells past setup old c
+  pub taken : (setup : Setup) (c : Cluster) → Stands facts setup old c
       → ops ≡ flat_map (λ (at : ℕ). ops_waiting k (c.queue (at + 1))) old.active
 
 -- a node is down from here on, and so are its members

@@ -27,7 +27,7 @@ fn crash_own<Y: Yard>(
 ) -> Result<(), YardFault>
     requires own { HasOwn node.old }
     ensures ok { OnOk result
-        (IsCrashedTo Y.Disk.tells Y.Disk.past image.now node.old node.new) }
+        (IsCrashedTo Y.Disk.facts image.now node.old node.new) }
     ensures cause { HasCause IsYardCaused (Y.faults yard.old) (Y.faults yard.new) result }
 {
     let Some(log) = node.log.take() else {
@@ -54,7 +54,7 @@ fn crash_at<Y: Yard>(
     requires place { at < length nodes.old }
     requires own { (node : NodeOf Y.Disk) → slice_get nodes.old at ≡ Some node → HasOwn node }
     ensures ok { OnOk result (NodeTurns
-        (IsCrashedTo Y.Disk.tells Y.Disk.past image.now) at nodes.old nodes.new) }
+        (IsCrashedTo Y.Disk.facts image.now) at nodes.old nodes.new) }
     ensures cause { HasCause IsYardCaused (Y.faults yard.old) (Y.faults yard.new) result }
 {
     crash_own(&mut nodes[at], alloc, yard, image)
@@ -70,7 +70,7 @@ fn crash_in<Y: Yard>(
     requires place { at < length nodes.old.items }
     requires own { (node : NodeOf Y.Disk) → slice_get nodes.old.items at ≡ Some node → HasOwn node }
     ensures ok { OnOk result (NodeTurns
-        (IsCrashedTo Y.Disk.tells Y.Disk.past image.now) at nodes.old.items nodes.new.items) }
+        (IsCrashedTo Y.Disk.facts image.now) at nodes.old.items nodes.new.items) }
     ensures cause { HasCause IsYardCaused (Y.faults yard.old) (Y.faults yard.new) result }
 {
     crash_at(nodes, alloc, at, yard, image)
@@ -86,12 +86,11 @@ pub fn crash_node<Y: Yard>(
     node: NodeId,
     image: &Image,
 ) -> Result<(), YardFault>
-    requires serve { CanServe Y.Disk.tells Y.Disk.past nodes.old }
+    requires serve { CanServe Y.Disk.facts nodes.old }
     requires node { IsNodeAt node nodes.old }
-    ensures ok { OnOk result ((outcome : Outcome) → HasHappened Y.Disk.tells Y.Disk.past Y.Disk.faults
+    ensures ok { OnOk result ((outcome : Outcome) → HasHappened Y.Disk.facts
         (λ setup. Is (Crashes node.0 image.now)) nodes.old nodes.new outcome outcome) }
-    ensures leaves { OnOk result (LeavesDisks Y.Disk.tells Y.Disk.past Y.Disk.faults
-        node.0 image.now nodes.old nodes.new) }
+    ensures leaves { OnOk result (LeavesDisks Y.Disk.facts node.0 image.now nodes.old nodes.new) }
     ensures cause { HasCause IsYardCaused (Y.faults yard.old) (Y.faults yard.new) result }
 {
     let at = node.0 as usize - 1;
@@ -111,8 +110,8 @@ pub fn crash_each<Y: Yard>(
     yard: &mut Y,
     image: &Image,
 ) -> Result<(), YardFault>
-    requires serve { CanServe Y.Disk.tells Y.Disk.past nodes.old }
-    ensures ok { OnOk result ((outcome : Outcome) → HasHappened Y.Disk.tells Y.Disk.past Y.Disk.faults
+    requires serve { CanServe Y.Disk.facts nodes.old }
+    ensures ok { OnOk result ((outcome : Outcome) → HasHappened Y.Disk.facts
         (λ (setup : Setup). ForEach setup.nodes (λ (k : ℕ). Is (Crashes k image.now)))
         nodes.old nodes.new outcome outcome) }
     ensures cause { HasCause IsYardCaused (Y.faults yard.old) (Y.faults yard.new) result }

@@ -20,7 +20,7 @@ impl<D: NodeDisk> Nodes<D> {
     // How many deliveries of a queue wait for their taker's verdict.
     fn untold_count(&self, at: usize) -> usize
         requires { at < length self.now.queues.items }
-        ensures { (setup : Setup) (c : Cluster) → Stands D.tells D.past setup self.now c →
+        ensures { (setup : Setup) (c : Cluster) → Stands D.facts setup self.now c →
             result ≡ length (c.queue (at + 1)).untold }
     {
         self.queues[at].untold_count()
@@ -33,11 +33,11 @@ impl<D: NodeDisk> Nodes<D> {
         at: usize,
         told: &mut Told<T>,
     ) -> Result<Option<Claim>, Memory>
-        requires serve { CanServe D.tells D.past self.old }
+        requires serve { CanServe D.facts self.old }
         requires place { at < length self.old.queues.items }
         requires active { is_in at self.old.active ≡ true }
-        ensures ok { IfOk result (λ claim. Served D.tells D.past D.faults
-            (λ setup. IsClaimedBy claim (at + 1)) self.old self.new told.old told.new) }
+        ensures ok { IfOk result (λ claim. Served D.facts (λ setup. IsClaimedBy claim (at + 1))
+            self.old self.new told.old told.new) }
         ensures may { IfOk result (λ claim. IfSome claim MayClaim) }
         ensures active { self.new.active ≡ self.old.active }
         ensures nodes { self.new.nodes ≡ self.old.nodes }
@@ -54,15 +54,15 @@ impl<D: NodeDisk> Nodes<D> {
         claim: Option<Claim>,
         told: &mut Told<T>,
     ) -> Result<(), Memory>
-        requires serve { CanServe D.tells D.past self.old }
+        requires serve { CanServe D.facts self.old }
         requires place { at < length self.old.queues.items }
         requires active { is_in at self.old.active ≡ true }
         requires may { IfSome claim MayClaim }
-        ensures ok { OnOk result (Served D.tells D.past D.faults
-            (λ setup. IsFollowed claim (at + 1)) self.old self.new told.old told.new) }
+        ensures ok { OnOk result (Served D.facts (λ setup. IsFollowed claim (at + 1)) self.old
+            self.new told.old told.new) }
         ensures active { self.new.active ≡ self.old.active }
-        ensures err { IfErr result (GaveUp D.tells D.past D.faults
-            (λ setup. IsFollowed claim (at + 1)) self.old self.new) }
+        ensures err { IfErr result (GaveUp D.facts (λ setup. IsFollowed claim (at + 1))
+            self.old self.new) }
     {
         match claim {
             None => Ok(()),
@@ -77,13 +77,13 @@ impl<D: NodeDisk> Nodes<D> {
         at: usize,
         told: &mut Told<T>,
     ) -> Result<(), Memory>
-        requires serve { CanServe D.tells D.past self.old }
+        requires serve { CanServe D.facts self.old }
         requires place { at < length self.old.queues.items }
         requires active { is_in at self.old.active ≡ true }
-        ensures ok { OnOk result (Served D.tells D.past D.faults (λ setup. IsNextJudged (at + 1))
-            self.old self.new told.old told.new) }
+        ensures ok { OnOk result (Served D.facts (λ setup. IsNextJudged (at + 1)) self.old self.new
+            told.old told.new) }
         ensures active { self.new.active ≡ self.old.active }
-        ensures err { IfErr result (GaveUp D.tells D.past D.faults (λ setup. IsNextJudged (at + 1))
+        ensures err { IfErr result (GaveUp D.facts (λ setup. IsNextJudged (at + 1))
             self.old self.new) }
     {
         let claim = match self.judge(alloc, at, told) {
@@ -103,14 +103,13 @@ impl<D: NodeDisk> Nodes<D> {
         at: usize,
         told: &mut Told<T>,
     ) -> Result<(), Memory>
-        requires serve { CanServe D.tells D.past self.old }
+        requires serve { CanServe D.facts self.old }
         requires place { at < length self.old.queues.items }
         requires active { is_in at self.old.active ≡ true }
-        ensures ok { OnOk result (Served D.tells D.past D.faults (λ setup. IsTold (at + 1))
-            self.old self.new told.old told.new) }
+        ensures ok { OnOk result (Served D.facts (λ setup. IsTold (at + 1)) self.old self.new
+            told.old told.new) }
         ensures active { self.new.active ≡ self.old.active }
-        ensures err { IfErr result (GaveUp D.tells D.past D.faults (λ setup. IsTold (at + 1))
-            self.old self.new) }
+        ensures err { IfErr result (GaveUp D.facts (λ setup. IsTold (at + 1)) self.old self.new) }
     {
         let count = self.untold_count(at);
         'verdicts: for verdict in 0..count {
@@ -129,15 +128,15 @@ impl<D: NodeDisk> Nodes<D> {
         ask: Ask,
         told: &mut Told<T>,
     ) -> Result<(), Memory>
-        requires serve { CanServe D.tells D.past self.old }
+        requires serve { CanServe D.facts self.old }
         requires place { at < length self.old.queues.items }
         requires active { is_in at self.old.active ≡ true }
         requires may { MayAsk ask }
-        ensures ok { OnOk result (Served D.tells D.past D.faults (λ setup. Tells (at + 1) (asked ask))
+        ensures ok { OnOk result (Served D.facts (λ setup. Tells (at + 1) (asked ask))
             self.old self.new told.old told.new) }
         ensures active { self.new.active ≡ self.old.active }
-        ensures err { IfErr result (GaveUp D.tells D.past D.faults
-            (λ setup. Tells (at + 1) (asked ask)) self.old self.new) }
+        ensures err { IfErr result (GaveUp D.facts (λ setup. Tells (at + 1) (asked ask))
+            self.old self.new) }
     {
         if let Err(cause) = self.ask_active(alloc, at, ask, told) {
             return Err(cause);
@@ -156,13 +155,13 @@ impl<D: NodeDisk> Nodes<D> {
         ask: Ask,
         told: &mut Told<T>,
     ) -> Result<(), Memory>
-        requires serve { CanServe D.tells D.past self.old }
+        requires serve { CanServe D.facts self.old }
         requires place { at < length self.old.queues.items }
         requires may { MayAsk ask }
-        ensures ok { OnOk result (Served D.tells D.past D.faults (λ setup. Tells (at + 1) (asked ask))
+        ensures ok { OnOk result (Served D.facts (λ setup. Tells (at + 1) (asked ask))
             self.old self.new told.old told.new) }
-        ensures err { IfErr result (GaveUp D.tells D.past D.faults
-            (λ setup. Tells (at + 1) (asked ask)) self.old self.new) }
+        ensures err { IfErr result (GaveUp D.facts (λ setup. Tells (at + 1) (asked ask))
+            self.old self.new) }
     {
         if let Err(cause) = self.wake(at) {
             return Err(cause);

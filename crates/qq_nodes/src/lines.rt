@@ -23,7 +23,7 @@ impl<D: NodeDisk> Nodes<D> {
     // The first delivery that a session's command ends at a queue and that wasn't handed out there.
     fn not_taken(&self, alloc: Global, at: usize, session: u64, body: &Unstamped) -> Option<u64>
         requires { at < length self.now.queues.items }
-        ensures { (setup : Setup) (c : Cluster) → Stands D.tells D.past setup self.now c →
+        ensures { (setup : Setup) (c : Cluster) → Stands D.facts setup self.now c →
             result ≡ not_taken session body.now (c.queue (at + 1)) }
     {
         self.queues[at].not_taken(alloc, session, body)
@@ -39,16 +39,16 @@ impl<D: NodeDisk> Nodes<D> {
         body: Unstamped,
         told: &mut Told<T>,
     ) -> Result<(), Memory>
-        requires serve { CanServe D.tells D.past self.old }
+        requires serve { CanServe D.facts self.old }
         requires place { at < length self.old.queues.items }
         requires active { is_in at self.old.active ≡ true }
         requires session { 0 < session }
         requires range { MayStamp body }
-        ensures ok { OnOk result (Served D.tells D.past D.faults (λ setup. IsGiven session body (at + 1))
+        ensures ok { OnOk result (Served D.facts (λ setup. IsGiven session body (at + 1))
             self.old self.new told.old told.new) }
         ensures active { self.new.active ≡ self.old.active }
-        ensures err { IfErr result (GaveUp D.tells D.past D.faults
-            (λ setup. IsGiven session body (at + 1)) self.old self.new) }
+        ensures err { IfErr result (GaveUp D.facts (λ setup. IsGiven session body (at + 1))
+            self.old self.new) }
     {
         let ended = self.sessions.is_ended(session);
         if ended {
@@ -69,14 +69,14 @@ impl<D: NodeDisk> Nodes<D> {
         body: Unstamped,
         told: &mut Told<T>,
     ) -> Result<(), Memory>
-        requires serve { CanServe D.tells D.past self.old }
+        requires serve { CanServe D.facts self.old }
         requires place { at < length self.old.queues.items }
         requires session { 0 < session }
         requires range { MayStamp body }
-        ensures ok { OnOk result (Served D.tells D.past D.faults (λ setup. IsGiven session body (at + 1))
+        ensures ok { OnOk result (Served D.facts (λ setup. IsGiven session body (at + 1))
             self.old self.new told.old told.new) }
-        ensures err { IfErr result (GaveUp D.tells D.past D.faults
-            (λ setup. IsGiven session body (at + 1)) self.old self.new) }
+        ensures err { IfErr result (GaveUp D.facts (λ setup. IsGiven session body (at + 1))
+            self.old self.new) }
     {
         if let Err(cause) = self.wake(at) {
             return Err(cause);
@@ -96,15 +96,14 @@ impl<D: NodeDisk> Nodes<D> {
         body: Unstamped,
         told: &mut Told<T>,
     ) -> Result<(), Memory>
-        requires serve { CanServe D.tells D.past self.old }
+        requires serve { CanServe D.facts self.old }
         requires queue { IsQueueAt queue self.old }
         requires session { 0 < session }
         requires range { MayStamp body }
-        ensures ok { OnOk result (Served D.tells D.past D.faults
-            (λ (setup : Setup). IsGiven session body queue.0)
+        ensures ok { OnOk result (Served D.facts (λ (setup : Setup). IsGiven session body queue.0)
             self.old self.new told.old told.new) }
-        ensures err { IfErr result (GaveUp D.tells D.past D.faults
-            (λ (setup : Setup). IsGiven session body queue.0) self.old self.new) }
+        ensures err { IfErr result (GaveUp D.facts (λ (setup : Setup). IsGiven session body queue.0)
+            self.old self.new) }
     {
         if let Err(cause) = self.give_at(alloc, queue.0 as usize - 1, session, body, told) {
             return Err(cause);
@@ -121,14 +120,14 @@ impl<D: NodeDisk> Nodes<D> {
         body: Unstamped,
         told: &mut Told<T>,
     ) -> Result<(), Memory>
-        requires serve { CanServe D.tells D.past self.old }
+        requires serve { CanServe D.facts self.old }
         requires queue { IsQueueAt queue self.old }
         requires session { 0 < session }
         requires range { MayStamp body }
-        ensures ok { OnOk result (Served D.tells D.past D.faults
+        ensures ok { OnOk result (Served D.facts
             (λ (setup : Setup). AndPumped setup (IsGiven session body queue.0))
             self.old self.new told.old told.new) }
-        ensures err { IfErr result (GaveUp D.tells D.past D.faults
+        ensures err { IfErr result (GaveUp D.facts
             (λ (setup : Setup). AndPumped setup (IsGiven session body queue.0)) self.old self.new) }
     {
         if let Err(cause) = self.hand(alloc, queue, session, body, told) {
@@ -150,12 +149,12 @@ impl<D: NodeDisk> Nodes<D> {
         number: u32,
         told: &mut Told<T>,
     ) -> Result<(), Memory>
-        requires serve { CanServe D.tells D.past self.old }
+        requires serve { CanServe D.facts self.old }
         requires queue { IsQueueAt queue self.old }
-        ensures ok { OnOk result (Served D.tells D.past D.faults
+        ensures ok { OnOk result (Served D.facts
             (λ setup. Is (At queue.0 (Attaches session tag number)))
             self.old self.new told.old told.new) }
-        ensures err { IfErr result (GaveUp D.tells D.past D.faults
+        ensures err { IfErr result (GaveUp D.facts
             (λ setup. Is (At queue.0 (Attaches session tag number))) self.old self.new) }
     {
         let ask = Ask::Attach {
@@ -178,13 +177,13 @@ impl<D: NodeDisk> Nodes<D> {
         queue: QueueId,
         told: &mut Told<T>,
     ) -> Result<(), Memory>
-        requires serve { CanServe D.tells D.past self.old }
+        requires serve { CanServe D.facts self.old }
         requires queue { IsQueueAt queue self.old }
         requires node { IsNodeAt node self.old }
-        ensures ok { OnOk result (Served D.tells D.past D.faults
+        ensures ok { OnOk result (Served D.facts
             (λ (setup : Setup). WhereUp node.0 (Tells queue.0 (Notices node.0)))
             self.old self.new told.old told.new) }
-        ensures err { IfErr result (GaveUp D.tells D.past D.faults
+        ensures err { IfErr result (GaveUp D.facts
             (λ (setup : Setup). WhereUp node.0 (Tells queue.0 (Notices node.0))) self.old self.new) }
     {
         let up = self.is_up(node);
@@ -208,13 +207,13 @@ impl<D: NodeDisk> Nodes<D> {
         queue: QueueId,
         told: &mut Told<T>,
     ) -> Result<(), Memory>
-        requires serve { CanServe D.tells D.past self.old }
+        requires serve { CanServe D.facts self.old }
         requires queue { IsQueueAt queue self.old }
         requires node { IsNodeAt node self.old }
-        ensures ok { OnOk result (Served D.tells D.past D.faults
+        ensures ok { OnOk result (Served D.facts
             (λ (setup : Setup). WhereUp node.0 (Is (At queue.0 (Ticks node.0))))
             self.old self.new told.old told.new) }
-        ensures err { IfErr result (GaveUp D.tells D.past D.faults
+        ensures err { IfErr result (GaveUp D.facts
             (λ (setup : Setup). WhereUp node.0 (Is (At queue.0 (Ticks node.0)))) self.old self.new) }
     {
         let up = self.is_up(node);
@@ -237,12 +236,12 @@ impl<D: NodeDisk> Nodes<D> {
         node: NodeId,
         told: &mut Told<T>,
     ) -> Result<(), Memory>
-        requires serve { CanServe D.tells D.past self.old }
+        requires serve { CanServe D.facts self.old }
         requires node { IsNodeAt node self.old }
-        ensures ok { OnOk result (Served D.tells D.past D.faults
+        ensures ok { OnOk result (Served D.facts
             (λ (setup : Setup). WhereUp node.0 (IsWrite setup node.0))
             self.old self.new told.old told.new) }
-        ensures err { IfErr result (GaveUp D.tells D.past D.faults
+        ensures err { IfErr result (GaveUp D.facts
             (λ (setup : Setup). WhereUp node.0 (IsWrite setup node.0)) self.old self.new) }
     {
         let up = self.is_up(node);
@@ -265,12 +264,12 @@ impl<D: NodeDisk> Nodes<D> {
         node: NodeId,
         told: &mut Told<T>,
     ) -> Result<(), Memory>
-        requires serve { CanServe D.tells D.past self.old }
+        requires serve { CanServe D.facts self.old }
         requires node { IsNodeAt node self.old }
-        ensures ok { OnOk result (Served D.tells D.past D.faults
+        ensures ok { OnOk result (Served D.facts
             (λ (setup : Setup). WhereUp node.0 (IsSync setup node.0))
             self.old self.new told.old told.new) }
-        ensures err { IfErr result (GaveUp D.tells D.past D.faults
+        ensures err { IfErr result (GaveUp D.facts
             (λ (setup : Setup). WhereUp node.0 (IsSync setup node.0)) self.old self.new) }
     {
         let up = self.is_up(node);
@@ -289,10 +288,10 @@ impl<D: NodeDisk> Nodes<D> {
     /// From here on answers to a session are lost, or come again. The only error is `Memory::Want`, out of
     /// memory.
     pub fn mute(&mut self, alloc: Global, session: u64, muted: bool) -> Result<(), Memory>
-        ensures ok { OnOk result ((outcome : Outcome) → Served D.tells D.past D.faults
+        ensures ok { OnOk result ((outcome : Outcome) → Served D.facts
             (λ setup. Is (Alike (MutesEach session muted))) self.old self.new outcome outcome) }
-        ensures err { IfErr result (GaveUp D.tells D.past D.faults
-            (λ setup. Is (Alike (MutesEach session muted))) self.old self.new) }
+        ensures err { IfErr result (GaveUp D.facts (λ setup. Is (Alike (MutesEach session muted)))
+            self.old self.new) }
         ensures want { IsOkUnless result Memory.Want }
     {
         sessions_are_those_of_each_queue();
@@ -301,10 +300,10 @@ impl<D: NodeDisk> Nodes<D> {
 
     // A session ends at each queue.
     fn mark_ended(&mut self, alloc: Global, session: u64) -> Result<(), Memory>
-        ensures ok { OnOk result ((outcome : Outcome) → Served D.tells D.past D.faults
+        ensures ok { OnOk result ((outcome : Outcome) → Served D.facts
             (λ setup. Is (Alike (EndsEach session))) self.old self.new outcome outcome) }
-        ensures err { IfErr result (GaveUp D.tells D.past D.faults
-            (λ setup. Is (Alike (EndsEach session))) self.old self.new) }
+        ensures err { IfErr result (GaveUp D.facts (λ setup. Is (Alike (EndsEach session)))
+            self.old self.new) }
         ensures want { IsOkUnless result Memory.Want }
     {
         sessions_are_those_of_each_queue();
@@ -318,12 +317,12 @@ impl<D: NodeDisk> Nodes<D> {
         session: u64,
         told: &mut Told<T>,
     ) -> Result<(), Memory>
-        requires serve { CanServe D.tells D.past self.old }
+        requires serve { CanServe D.facts self.old }
         requires session { 0 < session }
-        ensures ok { OnOk result (Served D.tells D.past D.faults
+        ensures ok { OnOk result (Served D.facts
             (λ (setup : Setup). ForEach setup.places (λ place. Is (At place (Downs session))))
             self.old self.new told.old told.new) }
-        ensures err { IfErr result (GaveUp D.tells D.past D.faults
+        ensures err { IfErr result (GaveUp D.facts
             (λ (setup : Setup). ForEach setup.places (λ place. Is (At place (Downs session)))) self.old self.new) }
     {
         let count = self.queues.len();
@@ -343,12 +342,12 @@ impl<D: NodeDisk> Nodes<D> {
         session: u64,
         told: &mut Told<T>,
     ) -> Result<(), Memory>
-        requires serve { CanServe D.tells D.past self.old }
+        requires serve { CanServe D.facts self.old }
         requires session { 0 < session }
-        ensures ok { OnOk result (Served D.tells D.past D.faults
+        ensures ok { OnOk result (Served D.facts
             (λ (setup : Setup). AndPumped setup (IsEnd setup session))
             self.old self.new told.old told.new) }
-        ensures err { IfErr result (GaveUp D.tells D.past D.faults
+        ensures err { IfErr result (GaveUp D.facts
             (λ (setup : Setup). AndPumped setup (IsEnd setup session)) self.old self.new) }
     {
         if let Err(cause) = self.mark_ended(alloc, session) {

@@ -11,11 +11,11 @@ use qq_node_log::SyncOutcome;
 use std::alloc::Global;
 
 fn append_own<D: NodeDisk>(node: &mut Node<D>, alloc: Global, ops: Vec<Op>) -> Result<bool, Memory>
-    requires { MayAppendAt D.tells D.past ops.items node.old }
+    requires { MayAppendAt D.facts ops.items node.old }
     ensures ok { IfOk result (λ more.
-        Appends D.tells D.past D.faults ops.items more node.old node.new) }
+        Appends D.facts ops.items more node.old node.new) }
     ensures err { IfErr result (λ memory.
-        AppendsInPart D.tells D.past D.faults ops.items memory node.old node.new) }
+        AppendsInPart D.facts ops.items memory node.old node.new) }
 {
     match &mut node.log {
         None => unreachable!(),
@@ -24,11 +24,11 @@ fn append_own<D: NodeDisk>(node: &mut Node<D>, alloc: Global, ops: Vec<Op>) -> R
 }
 
 fn sync_own<D: NodeDisk>(node: &mut Node<D>, alloc: Global) -> Result<SyncOutcome, Memory>
-    requires { MaySyncAt D.tells D.past node.old }
+    requires { MaySyncAt D.facts node.old }
     ensures ok { IfOk result (λ outcome.
-        Syncs D.tells D.past D.faults outcome node.old node.new) }
+        Syncs D.facts outcome node.old node.new) }
     ensures err { IfErr result (λ memory.
-        SyncsInPart D.tells D.past D.faults memory node.old node.new) }
+        SyncsInPart D.facts memory node.old node.new) }
 {
     match &mut node.log {
         None => unreachable!(),
@@ -44,11 +44,11 @@ fn append_at<D: NodeDisk>(
 ) -> Result<bool, Memory>
     requires place { at < length nodes.old }
     requires may { (node : NodeOf D) → slice_get nodes.old at ≡ Some node →
-        MayAppendAt D.tells D.past ops.items node }
+        MayAppendAt D.facts ops.items node }
     ensures ok { IfOk result (λ more. NodeTurns
-        (Appends D.tells D.past D.faults ops.items more) at nodes.old nodes.new) }
+        (Appends D.facts ops.items more) at nodes.old nodes.new) }
     ensures err { IfErr result (λ memory. NodeTurns
-        (AppendsInPart D.tells D.past D.faults ops.items memory) at nodes.old nodes.new) }
+        (AppendsInPart D.facts ops.items memory) at nodes.old nodes.new) }
 {
     append_own(&mut nodes[at], alloc, ops)
 }
@@ -62,12 +62,11 @@ pub(crate) fn append_in<D: NodeDisk>(
 ) -> Result<bool, Memory>
     requires place { at < length nodes.old.items }
     requires may { (node : NodeOf D) → slice_get nodes.old.items at ≡ Some node →
-        MayAppendAt D.tells D.past ops.items node }
+        MayAppendAt D.facts ops.items node }
     ensures ok { IfOk result (λ more. NodeTurns
-        (Appends D.tells D.past D.faults ops.items more) at nodes.old.items nodes.new.items) }
+        (Appends D.facts ops.items more) at nodes.old.items nodes.new.items) }
     ensures err { IfErr result (λ memory. NodeTurns
-        (AppendsInPart D.tells D.past D.faults ops.items memory) at nodes.old.items
-        nodes.new.items) }
+        (AppendsInPart D.facts ops.items memory) at nodes.old.items nodes.new.items) }
 {
     append_at(nodes, alloc, at, ops)
 }
@@ -79,11 +78,11 @@ fn sync_at<D: NodeDisk>(
 ) -> Result<SyncOutcome, Memory>
     requires place { at < length nodes.old }
     requires may { (node : NodeOf D) → slice_get nodes.old at ≡ Some node →
-        MaySyncAt D.tells D.past node }
+        MaySyncAt D.facts node }
     ensures ok { IfOk result (λ outcome. NodeTurns
-        (Syncs D.tells D.past D.faults outcome) at nodes.old nodes.new) }
+        (Syncs D.facts outcome) at nodes.old nodes.new) }
     ensures err { IfErr result (λ memory. NodeTurns
-        (SyncsInPart D.tells D.past D.faults memory) at nodes.old nodes.new) }
+        (SyncsInPart D.facts memory) at nodes.old nodes.new) }
 {
     sync_own(&mut nodes[at], alloc)
 }
@@ -96,11 +95,11 @@ pub(crate) fn sync_in<D: NodeDisk>(
 ) -> Result<SyncOutcome, Memory>
     requires place { at < length nodes.old.items }
     requires may { (node : NodeOf D) → slice_get nodes.old.items at ≡ Some node →
-        MaySyncAt D.tells D.past node }
+        MaySyncAt D.facts node }
     ensures ok { IfOk result (λ outcome. NodeTurns
-        (Syncs D.tells D.past D.faults outcome) at nodes.old.items nodes.new.items) }
+        (Syncs D.facts outcome) at nodes.old.items nodes.new.items) }
     ensures err { IfErr result (λ memory. NodeTurns
-        (SyncsInPart D.tells D.past D.faults memory) at nodes.old.items nodes.new.items) }
+        (SyncsInPart D.facts memory) at nodes.old.items nodes.new.items) }
 {
     sync_at(nodes, alloc, at)
 }

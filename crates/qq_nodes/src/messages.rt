@@ -18,10 +18,10 @@ use std::alloc::Global;
 impl<D: NodeDisk> Nodes<D> {
     // Whom the message at a place, from 1, is for.
     fn receiver(&self, at: usize, message: u32) -> Option<NodeId>
-        requires serve { CanServe D.tells D.past self.now }
+        requires serve { CanServe D.facts self.now }
         requires place { at < length self.now.queues.items }
         requires message { 0 < message }
-        ensures receiver { (setup : Setup) (c : Cluster) → Stands D.tells D.past setup self.now c →
+        ensures receiver { (setup : Setup) (c : Cluster) → Stands D.facts setup self.now c →
             number_of result ≡ receiver_at c (at + 1) (message - 1) }
         ensures node { IfSome result (λ node. IsNodeAt node self.now) }
     {
@@ -38,14 +38,14 @@ impl<D: NodeDisk> Nodes<D> {
         ask: Ask,
         told: &mut Told<T>,
     ) -> Result<(), Memory>
-        requires serve { CanServe D.tells D.past self.old }
+        requires serve { CanServe D.facts self.old }
         requires place { at < length self.old.queues.items }
         requires message { 0 < message }
         requires may { MayAsk ask }
-        ensures ok { OnOk result (Served D.tells D.past D.faults (λ (setup : Setup) (c : Cluster).
+        ensures ok { OnOk result (Served D.facts (λ (setup : Setup) (c : Cluster).
             WhereThere (receiver_at c (at + 1) (message - 1)) (asked ask) (at + 1) c)
             self.old self.new told.old told.new) }
-        ensures err { IfErr result (GaveUp D.tells D.past D.faults (λ (setup : Setup) (c : Cluster).
+        ensures err { IfErr result (GaveUp D.facts (λ (setup : Setup) (c : Cluster).
             WhereThere (receiver_at c (at + 1) (message - 1)) (asked ask) (at + 1) c)
             self.old self.new) }
     {
@@ -71,14 +71,14 @@ impl<D: NodeDisk> Nodes<D> {
         node: NodeId,
         told: &mut Told<T>,
     ) -> Result<(), Memory>
-        requires serve { CanServe D.tells D.past self.old }
+        requires serve { CanServe D.facts self.old }
         requires place { at < length self.old.queues.items }
         requires message { 0 < message }
         requires node { IsNodeAt node self.old }
-        ensures ok { OnOk result (Served D.tells D.past D.faults
+        ensures ok { OnOk result (Served D.facts
             (λ (setup : Setup). IsDelivered (at + 1) (message - 1) (number_of (Some node)))
             self.old self.new told.old told.new) }
-        ensures err { IfErr result (GaveUp D.tells D.past D.faults
+        ensures err { IfErr result (GaveUp D.facts
             (λ (setup : Setup). IsDelivered (at + 1) (message - 1) (number_of (Some node)))
             self.old self.new) }
     {
@@ -104,11 +104,11 @@ impl<D: NodeDisk> Nodes<D> {
         message: u32,
         told: &mut Told<T>,
     ) -> Result<(), Memory>
-        requires serve { CanServe D.tells D.past self.old }
+        requires serve { CanServe D.facts self.old }
         requires queue { IsQueueAt queue self.old }
-        ensures ok { OnOk result (Served D.tells D.past D.faults (λ setup. IsDeliver queue.0 message)
-            self.old self.new told.old told.new) }
-        ensures err { IfErr result (GaveUp D.tells D.past D.faults (λ setup. IsDeliver queue.0 message)
+        ensures ok { OnOk result (Served D.facts (λ setup. IsDeliver queue.0 message) self.old
+            self.new told.old told.new) }
+        ensures err { IfErr result (GaveUp D.facts (λ setup. IsDeliver queue.0 message)
             self.old self.new) }
     {
         let at = queue.0 as usize - 1;
@@ -138,11 +138,11 @@ impl<D: NodeDisk> Nodes<D> {
         message: u32,
         told: &mut Told<T>,
     ) -> Result<(), Memory>
-        requires serve { CanServe D.tells D.past self.old }
+        requires serve { CanServe D.facts self.old }
         requires queue { IsQueueAt queue self.old }
-        ensures ok { OnOk result (Served D.tells D.past D.faults (λ setup. IsLose queue.0 message)
-            self.old self.new told.old told.new) }
-        ensures err { IfErr result (GaveUp D.tells D.past D.faults (λ setup. IsLose queue.0 message)
+        ensures ok { OnOk result (Served D.facts (λ setup. IsLose queue.0 message) self.old self.new
+            told.old told.new) }
+        ensures err { IfErr result (GaveUp D.facts (λ setup. IsLose queue.0 message)
             self.old self.new) }
     {
         if message == 0 {
@@ -166,11 +166,11 @@ impl<D: NodeDisk> Nodes<D> {
         message: u32,
         told: &mut Told<T>,
     ) -> Result<(), Memory>
-        requires serve { CanServe D.tells D.past self.old }
+        requires serve { CanServe D.facts self.old }
         requires queue { IsQueueAt queue self.old }
-        ensures ok { OnOk result (Served D.tells D.past D.faults (λ setup. IsCopy queue.0 message)
-            self.old self.new told.old told.new) }
-        ensures err { IfErr result (GaveUp D.tells D.past D.faults (λ setup. IsCopy queue.0 message)
+        ensures ok { OnOk result (Served D.facts (λ setup. IsCopy queue.0 message) self.old self.new
+            told.old told.new) }
+        ensures err { IfErr result (GaveUp D.facts (λ setup. IsCopy queue.0 message)
             self.old self.new) }
     {
         if message == 0 {

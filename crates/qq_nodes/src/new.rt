@@ -119,11 +119,11 @@ impl<D: NodeDisk> Nodes<D> {
         requires set { (setup : Setup) × IsSetupOver setup rows.now (length disks.old.items) }
         requires rows { All IsRow rows.now }
         requires few { length disks.old.items ≤ NODE_LIMIT }
-        requires whole { All (IsWhole D.tells D.past) disks.old.items }
+        requires whole { All (IsWhole D.facts) disks.old.items }
         ensures ok { (setup : Setup) → IsSetupOver setup rows.now (length disks.old.items) →
-            IfOk result (λ nodes. Stands D.tells D.past setup nodes (new_cluster setup)) }
-        ensures new { IfOk result (AreNew D.tells D.past rows.now) }
-        ensures disks { IfOk result (HaveDisks D.tells D.past D.faults disks.old.items) }
+            IfOk result (λ nodes. Stands D.facts setup nodes (new_cluster setup)) }
+        ensures new { IfOk result (AreNew D.facts rows.now) }
+        ensures disks { IfOk result (HaveDisks D.facts disks.old.items) }
         ensures empty { OnOk result (disks.new.items ≡ []) }
         ensures room { vec_capacity disks.new ≡ vec_capacity disks.old }
         ensures err { OnErr result (disks.new ≡ disks.old) }

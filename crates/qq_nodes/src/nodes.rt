@@ -71,7 +71,7 @@ impl<D: NodeDisk> Nodes<D> {
     /// Whether a node is up.
     pub fn is_up(&self, node: NodeId) -> bool
         requires { IsNodeAt node self.now }
-        ensures { (setup : Setup) (c : Cluster) → Stands D.tells D.past setup self.now c →
+        ensures { (setup : Setup) (c : Cluster) → Stands D.facts setup self.now c →
             result ≡ c.up node.0 }
     {
         self.nodes[node.0 as usize - 1].up
@@ -80,7 +80,7 @@ impl<D: NodeDisk> Nodes<D> {
     /// A node's id by its index.
     pub fn node_id(&self, at: usize) -> NodeId
         requires { at < length self.now.nodes.items }
-        ensures { (setup : Setup) (c : Cluster) → Stands D.tells D.past setup self.now c →
+        ensures { (setup : Setup) (c : Cluster) → Stands D.facts setup self.now c →
             result.0 ≡ at + 1 }
     {
         self.nodes[at].id
@@ -88,9 +88,9 @@ impl<D: NodeDisk> Nodes<D> {
 
     // How many messages a queue's members have on their way.
     pub(crate) fn messages(&self, at: usize) -> u32
-        requires serve { CanServe D.tells D.past self.now }
+        requires serve { CanServe D.facts self.now }
         requires place { at < length self.now.queues.items }
-        ensures { (setup : Setup) (c : Cluster) → Stands D.tells D.past setup self.now c →
+        ensures { (setup : Setup) (c : Cluster) → Stands D.facts setup self.now c →
             result ≡ length (c.queue (at + 1)).group.bag }
     {
         self.queues[at].messages()
@@ -98,11 +98,11 @@ impl<D: NodeDisk> Nodes<D> {
 
     // Whether a node is up, and a queue's member on it has something to notice.
     pub(crate) fn waits_noticed(&self, at: usize, node: NodeId) -> bool
-        requires serve { CanServe D.tells D.past self.now }
+        requires serve { CanServe D.facts self.now }
         requires place { at < length self.now.queues.items }
         requires node { IsNodeAt node self.now }
         ensures { (setup : Setup) (c : Cluster) → IsReached setup c →
-            Stands D.tells D.past setup self.now c →
+            Stands D.facts setup self.now c →
             result ≡ (c.up node.0 && waits_noticed node.0 (c.queue (at + 1))) }
     {
         self.queues[at].waits_noticed(node)
@@ -110,12 +110,11 @@ impl<D: NodeDisk> Nodes<D> {
 
     // Whether a node is down, or all that a queue's member on it has handed out was written, synced and noticed.
     pub(crate) fn is_settled(&self, at: usize, node: NodeId) -> bool
-        requires serve { CanServe D.tells D.past self.now }
+        requires serve { CanServe D.facts self.now }
         requires place { at < length self.now.queues.items }
         requires node { IsNodeAt node self.now }
         ensures { (setup : Setup) (c : Cluster) → IsReached setup c →
-            Stands D.tells D.past setup self.now c →
-            result ≡ is_quiet_at (c.queue (at + 1)) c.up node.0 }
+            Stands D.facts setup self.now c → result ≡ is_quiet_at (c.queue (at + 1)) c.up node.0 }
     {
         self.queues[at].is_settled(node)
     }
@@ -123,11 +122,10 @@ impl<D: NodeDisk> Nodes<D> {
     // From here on a queue may have something to do.
     pub(crate) fn wake(&mut self, at: usize) -> Result<(), Memory>
         requires { at < length self.old.queues.items }
-        ensures ok { OnOk result ((outcome : Outcome) → Served D.tells D.past D.faults (λ setup. IsNothing)
+        ensures ok { OnOk result ((outcome : Outcome) → Served D.facts (λ setup. IsNothing)
             self.old self.new outcome outcome) }
         ensures active { OnOk result (is_in at self.new.active ≡ true) }
-        ensures err { IfErr result (GaveUp D.tells D.past D.faults
-            (λ setup. IsNothing) self.old self.new) }
+        ensures err { IfErr result (GaveUp D.facts (λ setup. IsNothing) self.old self.new) }
         ensures want { IsOkUnless result Memory.Want }
     {
         self.active.add(at)
@@ -141,15 +139,15 @@ impl<D: NodeDisk> Nodes<D> {
         ask: Ask,
         told: &mut Told<T>,
     ) -> Result<(), Memory>
-        requires serve { CanServe D.tells D.past self.old }
+        requires serve { CanServe D.facts self.old }
         requires place { at < length self.old.queues.items }
         requires active { is_in at self.old.active ≡ true }
         requires may { MayAsk ask }
-        ensures ok { OnOk result (Served D.tells D.past D.faults (λ setup. Is (At (at + 1) (asked ask)))
+        ensures ok { OnOk result (Served D.facts (λ setup. Is (At (at + 1) (asked ask)))
             self.old self.new told.old told.new) }
         ensures active { self.new.active ≡ self.old.active }
-        ensures err { IfErr result (GaveUp D.tells D.past D.faults
-            (λ setup. Is (At (at + 1) (asked ask))) self.old self.new) }
+        ensures err { IfErr result (GaveUp D.facts (λ setup. Is (At (at + 1) (asked ask)))
+            self.old self.new) }
     {
         a_refusal_tells_an_end();
         ask_in(&mut self.queues, alloc, &self.sessions, at, ask, told)
@@ -163,13 +161,13 @@ impl<D: NodeDisk> Nodes<D> {
         ask: Ask,
         told: &mut Told<T>,
     ) -> Result<(), Memory>
-        requires serve { CanServe D.tells D.past self.old }
+        requires serve { CanServe D.facts self.old }
         requires place { at < length self.old.queues.items }
         requires may { MayAsk ask }
-        ensures ok { OnOk result (Served D.tells D.past D.faults (λ setup. Is (At (at + 1) (asked ask)))
+        ensures ok { OnOk result (Served D.facts (λ setup. Is (At (at + 1) (asked ask)))
             self.old self.new told.old told.new) }
-        ensures err { IfErr result (GaveUp D.tells D.past D.faults
-            (λ setup. Is (At (at + 1) (asked ask))) self.old self.new) }
+        ensures err { IfErr result (GaveUp D.facts (λ setup. Is (At (at + 1) (asked ask)))
+            self.old self.new) }
     {
         if let Err(cause) = self.wake(at) {
             return Err(cause);
@@ -182,7 +180,7 @@ impl<D: NodeDisk> Nodes<D> {
 
     // A line is for a node that is down.
     pub(crate) fn say_down<T: Taker>(&self, node: NodeId, told: &mut Told<T>) -> Result<(), Memory>
-        ensures ok { OnOk result (Served D.tells D.past D.faults (λ setup. Is (SaysDown node.0))
+        ensures ok { OnOk result (Served D.facts (λ setup. Is (SaysDown node.0))
             self.now self.now told.old told.new) }
         ensures want { IsOkUnless result Memory.Want }
     {
@@ -191,7 +189,7 @@ impl<D: NodeDisk> Nodes<D> {
 
     // A pump has made all its rounds.
     pub(crate) fn say_busy<T: Taker>(&self, told: &mut Told<T>) -> Result<(), Memory>
-        ensures ok { OnOk result (Served D.tells D.past D.faults (λ setup. Is SaysBusy)
+        ensures ok { OnOk result (Served D.facts (λ setup. Is SaysBusy)
             self.now self.now told.old told.new) }
         ensures want { IsOkUnless result Memory.Want }
     {
@@ -200,7 +198,7 @@ impl<D: NodeDisk> Nodes<D> {
 
     // The commands of a session that has ended are to be sent again.
     pub(crate) fn say_ended<T: Taker>(&self, told: &mut Told<T>) -> Result<(), Memory>
-        ensures ok { OnOk result (Served D.tells D.past D.faults (λ setup. Is SaysEnded)
+        ensures ok { OnOk result (Served D.facts (λ setup. Is SaysEnded)
             self.now self.now told.old told.new) }
         ensures want { IsOkUnless result Memory.Want }
     {
@@ -209,7 +207,7 @@ impl<D: NodeDisk> Nodes<D> {
 
     // A line is for a message that isn't there.
     pub(crate) fn say_no_such<T: Taker>(&self, told: &mut Told<T>) -> Result<(), Memory>
-        ensures ok { OnOk result (Served D.tells D.past D.faults (λ setup. Is SaysNoSuch)
+        ensures ok { OnOk result (Served D.facts (λ setup. Is SaysNoSuch)
             self.now self.now told.old told.new) }
         ensures want { IsOkUnless result Memory.Want }
     {
@@ -218,7 +216,7 @@ impl<D: NodeDisk> Nodes<D> {
 
     // A message is routed to no queue.
     pub(crate) fn say_unroutable<T: Taker>(&self, told: &mut Told<T>) -> Result<(), Memory>
-        ensures ok { OnOk result (Served D.tells D.past D.faults (λ setup. Is SaysUnroutable)
+        ensures ok { OnOk result (Served D.facts (λ setup. Is SaysUnroutable)
             self.now self.now told.old told.new) }
         ensures want { IsOkUnless result Memory.Want }
     {
@@ -227,8 +225,8 @@ impl<D: NodeDisk> Nodes<D> {
 
     /// Whether a pump follows each line of a client from here on.
     pub fn set_auto(&mut self, auto: bool)
-        ensures { (outcome : Outcome) → Served D.tells D.past D.faults (λ setup. Is (Sets auto))
-            self.old self.new outcome outcome }
+        ensures { (outcome : Outcome) → Served D.facts (λ setup. Is (Sets auto)) self.old
+            self.new outcome outcome }
     {
         self.auto = auto;
     }

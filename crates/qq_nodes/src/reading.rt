@@ -15,9 +15,9 @@ use std::alloc::Global;
 impl<D: NodeDisk> Nodes<D> {
     /// Whether a queue has a member that leads and takes commands.
     pub fn has_leader(&self, queue: QueueId) -> bool
-        requires serve { CanServe D.tells D.past self.now }
+        requires serve { CanServe D.facts self.now }
         requires queue { IsQueueAt queue self.now }
-        ensures { (setup : Setup) (c : Cluster) → Stands D.tells D.past setup self.now c →
+        ensures { (setup : Setup) (c : Cluster) → Stands D.facts setup self.now c →
             result ≡ has_leader (c.queue queue.0) }
     {
         self.queues[queue.0 as usize - 1].leader().is_some()
@@ -26,9 +26,9 @@ impl<D: NodeDisk> Nodes<D> {
     /// How many messages are ready at a queue's leader, and how many of its consumers weren't cancelled. None exactly
     /// where no member leads and takes commands.
     pub fn counts(&self, queue: QueueId) -> Option<(u64, u32)>
-        requires serve { CanServe D.tells D.past self.now }
+        requires serve { CanServe D.facts self.now }
         requires queue { IsQueueAt queue self.now }
-        ensures { (setup : Setup) (c : Cluster) → Stands D.tells D.past setup self.now c →
+        ensures { (setup : Setup) (c : Cluster) → Stands D.facts setup self.now c →
             result ≡ counts (c.queue queue.0) }
     {
         self.queues[queue.0 as usize - 1].counts()
@@ -38,7 +38,7 @@ impl<D: NodeDisk> Nodes<D> {
     pub fn count_rows(&self, alloc: Global, queue: QueueId, tally: &mut Tally) -> Result<(), Memory>
         requires { IsQueueAt queue self.now }
         ensures { OnOk result ((setup : Setup) (c : Cluster) →
-            Stands D.tells D.past setup self.now c →
+            Stands D.facts setup self.now c →
             tally.new ≡ count_rows (audit_rows (c.queue queue.0)) tally.old) }
     {
         self.queues[queue.0 as usize - 1].count_rows(alloc, tally)

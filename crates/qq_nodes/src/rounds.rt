@@ -28,15 +28,15 @@ impl<D: NodeDisk> Nodes<D> {
         node: NodeId,
         told: &mut Told<T>,
     ) -> Result<(), Memory>
-        requires serve { CanServe D.tells D.past self.old }
+        requires serve { CanServe D.facts self.old }
         requires place { at < length self.old.queues.items }
         requires active { is_in at self.old.active ≡ true }
         requires node { IsNodeAt node self.old }
-        ensures ok { OnOk result (Served D.tells D.past D.faults (λ setup. IsNotice node.0 (at + 1))
-            self.old self.new told.old told.new) }
+        ensures ok { OnOk result (Served D.facts (λ setup. IsNotice node.0 (at + 1)) self.old
+            self.new told.old told.new) }
         ensures active { self.new.active ≡ self.old.active }
-        ensures err { IfErr result (GaveUp D.tells D.past D.faults
-            (λ setup. IsNotice node.0 (at + 1)) self.old self.new) }
+        ensures err { IfErr result (GaveUp D.facts (λ setup. IsNotice node.0 (at + 1))
+            self.old self.new) }
     {
         let waits = self.waits_noticed(at, node);
         if !waits {
@@ -55,12 +55,12 @@ impl<D: NodeDisk> Nodes<D> {
         node: NodeId,
         told: &mut Told<T>,
     ) -> Result<(), Memory>
-        requires serve { CanServe D.tells D.past self.old }
+        requires serve { CanServe D.facts self.old }
         requires node { IsNodeAt node self.old }
-        ensures ok { OnOk result (Served D.tells D.past D.faults
+        ensures ok { OnOk result (Served D.facts
             (λ (setup : Setup). ForEach setup.places (IsNotice node.0))
             self.old self.new told.old told.new) }
-        ensures err { IfErr result (GaveUp D.tells D.past D.faults
+        ensures err { IfErr result (GaveUp D.facts
             (λ (setup : Setup). ForEach setup.places (IsNotice node.0)) self.old self.new) }
     {
         // In the order of the queues, which is the order of what is printed.
@@ -81,14 +81,14 @@ impl<D: NodeDisk> Nodes<D> {
         at: usize,
         told: &mut Told<T>,
     ) -> Result<(), Memory>
-        requires serve { CanServe D.tells D.past self.old }
+        requires serve { CanServe D.facts self.old }
         requires place { at < length self.old.queues.items }
         requires active { is_in at self.old.active ≡ true }
-        ensures ok { OnOk result (Served D.tells D.past D.faults (λ setup. IsEmptied (at + 1))
-            self.old self.new told.old told.new) }
+        ensures ok { OnOk result (Served D.facts (λ setup. IsEmptied (at + 1)) self.old self.new
+            told.old told.new) }
         ensures active { self.new.active ≡ self.old.active }
-        ensures err { IfErr result (GaveUp D.tells D.past D.faults
-            (λ setup. IsEmptied (at + 1)) self.old self.new) }
+        ensures err { IfErr result (GaveUp D.facts (λ setup. IsEmptied (at + 1))
+            self.old self.new) }
     {
         let count = self.messages(at);
         'messages: for message in 0..count {
@@ -101,11 +101,10 @@ impl<D: NodeDisk> Nodes<D> {
 
     // The messages of each queue are delivered.
     fn empty_each<T: Taker>(&mut self, alloc: Global, told: &mut Told<T>) -> Result<(), Memory>
-        requires { CanServe D.tells D.past self.old }
-        ensures ok { OnOk result (Served D.tells D.past D.faults
-            (λ (setup : Setup). ForEach setup.places IsEmptied)
+        requires { CanServe D.facts self.old }
+        ensures ok { OnOk result (Served D.facts (λ (setup : Setup). ForEach setup.places IsEmptied)
             self.old self.new told.old told.new) }
-        ensures err { IfErr result (GaveUp D.tells D.past D.faults
+        ensures err { IfErr result (GaveUp D.facts
             (λ (setup : Setup). ForEach setup.places IsEmptied) self.old self.new) }
     {
         let count = self.active.len();
@@ -125,13 +124,12 @@ impl<D: NodeDisk> Nodes<D> {
         node: NodeId,
         told: &mut Told<T>,
     ) -> Result<(), Memory>
-        requires serve { CanServe D.tells D.past self.old }
+        requires serve { CanServe D.facts self.old }
         requires node { IsNodeAt node self.old }
-        ensures ok { OnOk result (Served D.tells D.past D.faults
-            (λ (setup : Setup). IsNodeRound setup node.0)
+        ensures ok { OnOk result (Served D.facts (λ (setup : Setup). IsNodeRound setup node.0)
             self.old self.new told.old told.new) }
-        ensures err { IfErr result (GaveUp D.tells D.past D.faults
-            (λ (setup : Setup). IsNodeRound setup node.0) self.old self.new) }
+        ensures err { IfErr result (GaveUp D.facts (λ (setup : Setup). IsNodeRound setup node.0)
+            self.old self.new) }
     {
         if let Err(cause) = self.write_up(alloc, node, told) {
             return Err(cause);
@@ -147,11 +145,11 @@ impl<D: NodeDisk> Nodes<D> {
 
     // The rounds of all nodes.
     fn round_each<T: Taker>(&mut self, alloc: Global, told: &mut Told<T>) -> Result<(), Memory>
-        requires { CanServe D.tells D.past self.old }
-        ensures ok { OnOk result (Served D.tells D.past D.faults
+        requires { CanServe D.facts self.old }
+        ensures ok { OnOk result (Served D.facts
             (λ (setup : Setup). ForEach setup.nodes (IsNodeRound setup))
             self.old self.new told.old told.new) }
-        ensures err { IfErr result (GaveUp D.tells D.past D.faults
+        ensures err { IfErr result (GaveUp D.facts
             (λ (setup : Setup). ForEach setup.nodes (IsNodeRound setup)) self.old self.new) }
     {
         let count = self.nodes.len();
@@ -166,11 +164,10 @@ impl<D: NodeDisk> Nodes<D> {
 
     // Whether nothing is to be done at a queue.
     fn is_quiet(&self, at: usize) -> bool
-        requires serve { CanServe D.tells D.past self.now }
+        requires serve { CanServe D.facts self.now }
         requires place { at < length self.now.queues.items }
         ensures { (setup : Setup) (c : Cluster) → IsReached setup c →
-            Stands D.tells D.past setup self.now c →
-            result ≡ is_quiet setup c.up (c.queue (at + 1)) }
+            Stands D.facts setup self.now c → result ≡ is_quiet setup c.up (c.queue (at + 1)) }
     {
         let count = self.messages(at);
         if count > 0 {
@@ -189,9 +186,9 @@ impl<D: NodeDisk> Nodes<D> {
 
     // Queues at which nothing is to be done aren't active any more.
     fn drop_quiet(&mut self)
-        requires { CanServe D.tells D.past self.old }
-        ensures { (outcome : Outcome) → Served D.tells D.past D.faults (λ setup. IsNothing)
-            self.old self.new outcome outcome }
+        requires { CanServe D.facts self.old }
+        ensures { (outcome : Outcome) → Served D.facts (λ setup. IsNothing) self.old
+            self.new outcome outcome }
     {
         let mut left = self.active.len();
         // From the end, so that where all are quiet none of them is moved.
@@ -207,9 +204,9 @@ impl<D: NodeDisk> Nodes<D> {
 
     /// Whether a pump has nothing to do: no message is on its way, and nothing waits at a node that is up.
     pub fn is_idle(&self) -> bool
-        requires { CanServe D.tells D.past self.now }
+        requires { CanServe D.facts self.now }
         ensures { (setup : Setup) (c : Cluster) → IsReached setup c →
-            Stands D.tells D.past setup self.now c → result ≡ is_idle setup c }
+            Stands D.facts setup self.now c → result ≡ is_idle setup c }
     {
         let count = self.active.len();
         'active: for place in 0..count {
@@ -224,11 +221,9 @@ impl<D: NodeDisk> Nodes<D> {
 
     // The nodes in order, and then the queues in order.
     fn round<T: Taker>(&mut self, alloc: Global, told: &mut Told<T>) -> Result<(), Memory>
-        requires { CanServe D.tells D.past self.old }
-        ensures ok { OnOk result (Served D.tells D.past D.faults IsRound
-            self.old self.new told.old told.new) }
-        ensures err { IfErr result (GaveUp D.tells D.past D.faults
-            IsRound self.old self.new) }
+        requires { CanServe D.facts self.old }
+        ensures ok { OnOk result (Served D.facts IsRound self.old self.new told.old told.new) }
+        ensures err { IfErr result (GaveUp D.facts IsRound self.old self.new) }
     {
         if let Err(cause) = self.round_each(alloc, told) {
             return Err(cause);
@@ -243,11 +238,9 @@ impl<D: NodeDisk> Nodes<D> {
     /// Rounds are made until nothing is left to do: `MOST_ROUNDS` at most, after which it says that it is
     /// busy.
     pub fn pump<T: Taker>(&mut self, alloc: Global, told: &mut Told<T>) -> Result<(), Memory>
-        requires { CanServe D.tells D.past self.old }
-        ensures ok { OnOk result (Served D.tells D.past D.faults IsPump
-            self.old self.new told.old told.new) }
-        ensures err { IfErr result (GaveUp D.tells D.past D.faults
-            IsPump self.old self.new) }
+        requires { CanServe D.facts self.old }
+        ensures ok { OnOk result (Served D.facts IsPump self.old self.new told.old told.new) }
+        ensures err { IfErr result (GaveUp D.facts IsPump self.old self.new) }
     {
         let mut left = MOST_ROUNDS;
         'rounds: while left > 0 {
@@ -276,11 +269,9 @@ impl<D: NodeDisk> Nodes<D> {
         alloc: Global,
         told: &mut Told<T>,
     ) -> Result<(), Memory>
-        requires { CanServe D.tells D.past self.old }
-        ensures ok { OnOk result (Served D.tells D.past D.faults IsPumped
-            self.old self.new told.old told.new) }
-        ensures err { IfErr result (GaveUp D.tells D.past D.faults
-            IsPumped self.old self.new) }
+        requires { CanServe D.facts self.old }
+        ensures ok { OnOk result (Served D.facts IsPumped self.old self.new told.old told.new) }
+        ensures err { IfErr result (GaveUp D.facts IsPumped self.old self.new) }
     {
         if !self.auto {
             return Ok(());

@@ -28,15 +28,15 @@ impl<D: NodeDisk> Nodes<D> {
         body: &Unstamped,
         told: &mut Told<T>,
     ) -> Result<(), Memory>
-        requires serve { CanServe D.tells D.past self.old }
+        requires serve { CanServe D.facts self.old }
         requires queues { All (λ queue. IsQueueAt queue self.old) queues.now }
         requires count { count < length queues.now }
         requires session { 0 < session }
         requires range { MayStamp body.now }
-        ensures ok { OnOk result (Served D.tells D.past D.faults
+        ensures ok { OnOk result (Served D.facts
             (GivesTo session body.now (numbers_of queues.now) count)
             self.old self.new told.old told.new) }
-        ensures err { IfErr result (GaveUp D.tells D.past D.faults
+        ensures err { IfErr result (GaveUp D.facts
             (λ (setup : Setup). ForEach (numbers_of queues.now) (IsGiven session body.now))
             self.old self.new) }
     {
@@ -62,14 +62,14 @@ impl<D: NodeDisk> Nodes<D> {
         body: Unstamped,
         told: &mut Told<T>,
     ) -> Result<(), Memory>
-        requires serve { CanServe D.tells D.past self.old }
+        requires serve { CanServe D.facts self.old }
         requires queues { All (λ queue. IsQueueAt queue self.old) queues.now }
         requires session { 0 < session }
         requires range { MayStamp body }
-        ensures ok { OnOk result (Served D.tells D.past D.faults
+        ensures ok { OnOk result (Served D.facts
             (λ (setup : Setup). IsRouted session body (numbers_of queues.now))
             self.old self.new told.old told.new) }
-        ensures err { IfErr result (GaveUp D.tells D.past D.faults
+        ensures err { IfErr result (GaveUp D.facts
             (λ (setup : Setup). IsRouted session body (numbers_of queues.now)) self.old self.new) }
     {
         let count = queues.len();
@@ -100,14 +100,14 @@ impl<D: NodeDisk> Nodes<D> {
         body: Unstamped,
         told: &mut Told<T>,
     ) -> Result<(), Memory>
-        requires serve { CanServe D.tells D.past self.old }
+        requires serve { CanServe D.facts self.old }
         requires queues { All (λ queue. IsQueueAt queue self.old) queues.now }
         requires session { 0 < session }
         requires range { MayStamp body }
-        ensures ok { OnOk result (Served D.tells D.past D.faults
+        ensures ok { OnOk result (Served D.facts
             (λ (setup : Setup). AndPumped setup (IsRouted session body (numbers_of queues.now)))
             self.old self.new told.old told.new) }
-        ensures err { IfErr result (GaveUp D.tells D.past D.faults
+        ensures err { IfErr result (GaveUp D.facts
             (λ (setup : Setup). AndPumped setup (IsRouted session body (numbers_of queues.now)))
             self.old self.new) }
     {
@@ -127,11 +127,11 @@ impl<D: NodeDisk> Nodes<D> {
         session: u64,
         told: &mut Told<T>,
     ) -> Result<(), Memory>
-        requires { CanServe D.tells D.past self.old }
-        ensures ok { OnOk result (Served D.tells D.past D.faults
+        requires { CanServe D.facts self.old }
+        ensures ok { OnOk result (Served D.facts
             (λ (setup : Setup). ForEach setup.places (λ place. Is (At place (Resends session))))
             self.old self.new told.old told.new) }
-        ensures err { IfErr result (GaveUp D.tells D.past D.faults
+        ensures err { IfErr result (GaveUp D.facts
             (λ (setup : Setup). ForEach setup.places (λ place. Is (At place (Resends session))))
             self.old self.new) }
     {
@@ -151,11 +151,11 @@ impl<D: NodeDisk> Nodes<D> {
         session: u64,
         told: &mut Told<T>,
     ) -> Result<(), Memory>
-        requires { CanServe D.tells D.past self.old }
-        ensures ok { OnOk result (Served D.tells D.past D.faults
+        requires { CanServe D.facts self.old }
+        ensures ok { OnOk result (Served D.facts
             (λ (setup : Setup). ForEach setup.places (λ place. Tells place (Fetches session)))
             self.old self.new told.old told.new) }
-        ensures err { IfErr result (GaveUp D.tells D.past D.faults
+        ensures err { IfErr result (GaveUp D.facts
             (λ (setup : Setup). ForEach setup.places (λ place. Tells place (Fetches session)))
             self.old self.new) }
     {
@@ -175,12 +175,11 @@ impl<D: NodeDisk> Nodes<D> {
         session: u64,
         told: &mut Told<T>,
     ) -> Result<(), Memory>
-        requires { CanServe D.tells D.past self.old }
-        ensures ok { OnOk result (Served D.tells D.past D.faults
-            (λ (setup : Setup). Sends setup session)
+        requires { CanServe D.facts self.old }
+        ensures ok { OnOk result (Served D.facts (λ (setup : Setup). Sends setup session)
             self.old self.new told.old told.new) }
-        ensures err { IfErr result (GaveUp D.tells D.past D.faults
-            (λ (setup : Setup). Sends setup session) self.old self.new) }
+        ensures err { IfErr result (GaveUp D.facts (λ (setup : Setup). Sends setup session)
+            self.old self.new) }
     {
         if let Err(cause) = self.resend_each(alloc, session, told) {
             return Err(cause);
@@ -198,12 +197,11 @@ impl<D: NodeDisk> Nodes<D> {
         session: u64,
         told: &mut Told<T>,
     ) -> Result<(), Memory>
-        requires { CanServe D.tells D.past self.old }
-        ensures ok { OnOk result (Served D.tells D.past D.faults
-            (λ (setup : Setup). IsResend setup session)
+        requires { CanServe D.facts self.old }
+        ensures ok { OnOk result (Served D.facts (λ (setup : Setup). IsResend setup session)
             self.old self.new told.old told.new) }
-        ensures err { IfErr result (GaveUp D.tells D.past D.faults
-            (λ (setup : Setup). IsResend setup session) self.old self.new) }
+        ensures err { IfErr result (GaveUp D.facts (λ (setup : Setup). IsResend setup session)
+            self.old self.new) }
     {
         let ended = self.sessions.is_ended(session);
         let some = self.queues.len() > 0;
@@ -231,11 +229,11 @@ impl<D: NodeDisk> Nodes<D> {
         session: u64,
         told: &mut Told<T>,
     ) -> Result<(), Memory>
-        requires { CanServe D.tells D.past self.old }
-        ensures ok { OnOk result (Served D.tells D.past D.faults
+        requires { CanServe D.facts self.old }
+        ensures ok { OnOk result (Served D.facts
             (λ (setup : Setup). AndPumped setup (IsResend setup session))
             self.old self.new told.old told.new) }
-        ensures err { IfErr result (GaveUp D.tells D.past D.faults
+        ensures err { IfErr result (GaveUp D.facts
             (λ (setup : Setup). AndPumped setup (IsResend setup session)) self.old self.new) }
     {
         if let Err(cause) = self.resend_or_tell(alloc, session, told) {

@@ -35,11 +35,11 @@ impl<D: NodeDisk> Nodes<D> {
         at: usize,
         told: &mut Told<T>,
     ) -> Result<(), Memory>
-        requires serve { CanServe D.tells D.past self.now }
+        requires serve { CanServe D.facts self.now }
         requires queue { IsQueueAt queue self.now }
         requires place { at < length self.now.nodes.items }
         ensures ok { OnOk result ((setup : Setup) (c : Cluster) →
-            Stands D.tells D.past setup self.now c →
+            Stands D.facts setup self.now c →
             told.new ≡ with_line (member_text setup c queue.0 (at + 1)) told.old) }
         ensures want { IsOkUnless result Memory.Want }
     {
@@ -58,9 +58,9 @@ impl<D: NodeDisk> Nodes<D> {
         queue: QueueId,
         told: &mut Told<T>,
     ) -> Result<(), Memory>
-        requires serve { CanServe D.tells D.past self.now }
+        requires serve { CanServe D.facts self.now }
         requires queue { IsQueueAt queue self.now }
-        ensures ok { OnOk result (Served D.tells D.past D.faults (λ setup. Is (Shows queue.0))
+        ensures ok { OnOk result (Served D.facts (λ setup. Is (Shows queue.0))
             self.now self.now told.old told.new) }
         ensures want { IsOkUnless result Memory.Want }
     {
@@ -84,12 +84,12 @@ impl<D: NodeDisk> Nodes<D> {
     ) -> Result<(), Memory>
         requires { IsQueueAt queue self.now }
         ensures ok { OnOk result ((setup : Setup) (c : Cluster) (held : Held D) →
-            held.queues ≡ self.now.queues → Stands D.tells D.past setup held c →
+            held.queues ≡ self.now.queues → Stands D.facts setup held c →
             text.new.items ≡ text.old.items
             ++ audit_text (setup.name queue.0) 0 (audit_rows (c.queue queue.0))) }
         ensures err { OnErr result (IsFront text.old.items text.new.items) }
         ensures cause { IfErr result (λ e. (setup : Setup) (c : Cluster) (held : Held D) →
-            held.queues ≡ self.now.queues → Stands D.tells D.past setup held c →
+            held.queues ≡ self.now.queues → Stands D.facts setup held c →
             SpentOnlyWhere e NUMBER_END
             (stays_within (empty_queue (c.queue queue.0).args) (c.queue queue.0).group.audit
             ≡ false)) }

@@ -15,12 +15,11 @@ impl<D: NodeDisk> Nodes<D> {
     /// - `stands`: these stand for the cluster after a crash of each node, whatever the crashes leave of the disks.
     /// - `disks`: each disk is as it was.
     pub fn stop_each(&mut self, alloc: Global)
-        requires { CanServe D.tells D.past self.old }
+        requires { CanServe D.facts self.old }
         ensures stands { (setup : Setup) (c : Cluster) (images : ℕ → Image) →
-            Stands D.tells D.past setup self.old c → Stands D.tells D.past setup self.new
+            Stands D.facts setup self.old c → Stands D.facts setup self.new
             (cluster_after c (crashes_with images setup.nodes)) }
-        ensures disks { (k : ℕ) → seen D.tells D.past D.faults self.new k
-            ≡ seen D.tells D.past D.faults self.old k }
+        ensures disks { (k : ℕ) → seen D.facts self.new k ≡ seen D.facts self.old k }
     {
         let count = self.nodes.len();
         'nodes: for at in 0..count {

@@ -20,13 +20,12 @@ impl<D: NodeDisk> Nodes<D> {
         at: usize,
         told: &mut Told<T>,
     ) -> Result<(), Memory>
-        requires serve { CanServe D.tells D.past self.old }
+        requires serve { CanServe D.facts self.old }
         requires place { at < length self.old.queues.items }
-        ensures ok { OnOk result (Served D.tells D.past D.faults
-            (λ (setup : Setup). IsFirstTick setup (at + 1))
+        ensures ok { OnOk result (Served D.facts (λ (setup : Setup). IsFirstTick setup (at + 1))
             self.old self.new told.old told.new) }
-        ensures err { IfErr result (GaveUp D.tells D.past D.faults
-            (λ (setup : Setup). IsFirstTick setup (at + 1)) self.old self.new) }
+        ensures err { IfErr result (GaveUp D.facts (λ (setup : Setup). IsFirstTick setup (at + 1))
+            self.old self.new) }
     {
         let first = self.queues[at].members().first().copied();
         let Some(node) = first else {
@@ -40,11 +39,11 @@ impl<D: NodeDisk> Nodes<D> {
 
     /// Time passes at each queue's first member, in order.
     pub fn tick_each<T: Taker>(&mut self, alloc: Global, told: &mut Told<T>) -> Result<(), Memory>
-        requires { CanServe D.tells D.past self.old }
-        ensures ok { OnOk result (Served D.tells D.past D.faults
+        requires { CanServe D.facts self.old }
+        ensures ok { OnOk result (Served D.facts
             (λ (setup : Setup). ForEach setup.places (IsFirstTick setup))
             self.old self.new told.old told.new) }
-        ensures err { IfErr result (GaveUp D.tells D.past D.faults
+        ensures err { IfErr result (GaveUp D.facts
             (λ (setup : Setup). ForEach setup.places (IsFirstTick setup)) self.old self.new) }
     {
         let count = self.queues.len();

@@ -103,7 +103,7 @@ impl<D: NodeDisk> Nodes<D> {
         requires within { AllByRecursion (λ (at : ℕ). at < length self.old.queues.items)
             self.old.active }
         ensures ok { IfOk result (λ ops.
-            HasTaken D.tells D.past node.0 self.old self.new ops.items) }
+            HasTaken D.facts node.0 self.old self.new ops.items) }
         ensures nodes { self.new.nodes ≡ self.old.nodes }
         ensures want { IsOkUnless result Memory.Want }
     {

@@ -68,12 +68,12 @@ impl<D: NodeDisk> Nodes<D> {
         node: NodeId,
         told: &mut Told<T>,
     ) -> Result<(), Memory>
-        requires serve { CanServe D.tells D.past self.old }
+        requires serve { CanServe D.facts self.old }
         requires node { IsNodeAt node self.old }
-        ensures ok { OnOk result (Served D.tells D.past D.faults (λ (setup : Setup). IsWrite setup node.0)
+        ensures ok { OnOk result (Served D.facts (λ (setup : Setup). IsWrite setup node.0)
             self.old self.new told.old told.new) }
-        ensures err { IfErr result (GaveUp D.tells D.past D.faults
-            (λ (setup : Setup). IsWrite setup node.0) self.old self.new) }
+        ensures err { IfErr result (GaveUp D.facts (λ (setup : Setup). IsWrite setup node.0)
+            self.old self.new) }
     {
         what_waits_goes_on();
         let up = self.is_up(node);
@@ -108,12 +108,12 @@ impl<D: NodeDisk> Nodes<D> {
         node: NodeId,
         told: &mut Told<T>,
     ) -> Result<(), Memory>
-        requires serve { CanServe D.tells D.past self.old }
+        requires serve { CanServe D.facts self.old }
         requires node { IsNodeAt node self.old }
-        ensures ok { OnOk result (Served D.tells D.past D.faults (λ (setup : Setup). IsSync setup node.0)
+        ensures ok { OnOk result (Served D.facts (λ (setup : Setup). IsSync setup node.0)
             self.old self.new told.old told.new) }
-        ensures err { IfErr result (GaveUp D.tells D.past D.faults
-            (λ (setup : Setup). IsSync setup node.0) self.old self.new) }
+        ensures err { IfErr result (GaveUp D.facts (λ (setup : Setup). IsSync setup node.0)
+            self.old self.new) }
     {
         let up = self.is_up(node);
         if !up {

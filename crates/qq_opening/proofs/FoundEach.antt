@@ -8,7 +8,7 @@ use Rattle.qq_base.proofs.Fronts.{all-front}
 use Rattle.qq_base.proofs.Lists.{In as InList, In-filter, In-filter_passes, In-map}
 use Rattle.qq_base.proofs.Puts.{put-same}
 use Rattle.qq_base.specs.declared.ids.QueueId.{QueueId}
-use Rattle.qq_disk.specs.Disk.{Disk}
+use Rattle.qq_disk.specs.Facts.{DiskFacts}
 use Rattle.qq_log.specs.Stable.{new_state, no_snapshot, stable}
 use Rattle.qq_log.specs.declared.lane.Lane.{Lane}
 use Rattle.qq_lots.specs.Left.{ops_found, state_in}
@@ -73,8 +73,8 @@ pub record IsAtPlace (setup : Setup) (k : ℕ) (id : QueueId) (place : ℕ) : Ty
   pub id_is : id ≡ (setup.args place).queue
   pub number : id.0 ≡ place
 
-module _ {D : Type 0} {tells : D → Bool} {past : D → List Disk} (setup : Setup) (c : Cluster) (k : ℕ) (held : Held D)
-    (st : Stands tells past setup held c) where
+module _ {D : Type 0} {facts : DiskFacts D} (setup : Setup) (c : Cluster) (k : ℕ) (held : Held D)
+    (st : Stands facts setup held c) where
   abbrev own_id : ℕ → QueueId
   own_id place = (setup.args place).queue
 
@@ -116,8 +116,8 @@ module _ {D : Type 0} {tells : D → Bool} {past : D → List Disk} (setup : Set
   own-apart lanes found zip = pairs-apart (ids_of (lot_of setup k)) lanes found zip own-distinct own-low
 
   -- what is known of the members of a node that isn't opened now
-  pub known-seat : (x : Node D) → IsReached setup c → IsNodeOf tells past setup c k x → (place : ℕ)
-      (lane : Option Lane) → IsHanded (handed_of false x.empty) lane ((c.queue place).group.seat k)
+  pub known-seat : (x : Node D) → IsReached setup c → IsNodeOf facts setup c k x → (place : ℕ) (lane : Option Lane)
+      → IsHanded (handed_of false x.empty) lane ((c.queue place).group.seat k)
   known-seat x r was place lane = by x.empty was.fresh
     where
       new-seat : (parts_at c k ≡ (λ (p : ℕ). new_part)) → IsNewSeat ((c.queue place).group.seat k)
@@ -159,10 +159,10 @@ pub record GoesOnAt (setup : Setup) (c : Cluster) (k : ℕ) (lanes : Lanes) (pla
   pub base : lane_base lane ≡ no_snapshot
   pub may : MayTakeUp k (c.queue place) (lane_state lane)
 
-module _ {D : Type 0} {tells : D → Bool} {past : D → List Disk} (setup : Setup) (c : Cluster) (k : ℕ) (held : Held D)
+module _ {D : Type 0} {facts : DiskFacts D} (setup : Setup) (c : Cluster) (k : ℕ) (held : Held D)
     (news : List ClusterQueue) (x : Node D) (handed : Handed) (lanes : Lanes) (found : List (Option Lane))
     (r : IsReached setup c)
-    (st : Stands tells past setup held c) (was : IsNodeOf tells past setup c k x) (down : c.up k ≡ false)
+    (st : Stands facts setup held c) (was : IsNodeOf facts setup c k x) (down : c.up k ≡ false)
     (zip : AreLanes (ids_of (lot_of setup k)) lanes found)
     (take_up : AllChange pair_index (TakesUpOne k handed) (pairs (ids_of (lot_of setup k)) found) held.queues.items
     news)
@@ -361,10 +361,10 @@ module _ {D : Type 0} {tells : D → Bool} {past : D → List Disk} (setup : Set
     pub node-after : (wal : Wal D) (y : Node D)
         → y ≡ record x { log = Some (Open wal); up = true; empty = false }
         → ((AllEnd (lot_of setup k) (parts_at c k) lanes)
-        → IsRunning tells past (lot_of setup k) (find_each ops (parts_at c k)) wal)
-        → IsWhole tells past (ids_of (lot_of setup k)) wal.disk → IsNodeOf tells past setup after_it k y
+        → IsRunning facts (lot_of setup k) (find_each ops (parts_at c k)) wal)
+        → IsWhole facts (ids_of (lot_of setup k)) wal.disk → IsNodeOf facts setup after_it k y
     node-after wal y is goes whole =
-        subst (IsNodeOf tells past setup after_it k) (sym is) (record {
+        subst (IsNodeOf facts setup after_it k) (sym is) (record {
           id_is = was.id_is;
           few = was.few;
           up_is = sym (put-same k true c.up);
@@ -374,7 +374,7 @@ module _ {D : Type 0} {tells : D → Bool} {past : D → List Disk} (setup : Set
           own = Open wal;
           log_is = refl;
           log = record {
-            running = λ _. running-same tells past (lot_of setup k) (find_each ops (parts_at c k)) (parts_at after_it k)
+            running = λ _. running-same facts (lot_of setup k) (find_each ops (parts_at c k)) (parts_at after_it k)
                 (Open wal) (all-of (λ (place : ℕ). (parts_at after_it k place).ops
                 ≡ (find_each ops (parts_at c k) place).ops) (lot_of setup k).places
                 (λ place here. (let takes = takes-at place (goes-on_at place here) in

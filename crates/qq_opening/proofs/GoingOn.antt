@@ -6,7 +6,7 @@ use Rattle.std.proofs.lemmas.Bool.{cond_both, false≢true}
 use Rattle.qq_base.proofs.Lists.{AllByRecursion-filter, AllByRecursion-map}
 use Rattle.qq_base.specs.declared.ids.NodeId.{NodeId}
 use Rattle.qq_base.specs.declared.ids.QueueId.{QueueId}
-use Rattle.qq_disk.specs.Disk.{Disk}
+use Rattle.qq_disk.specs.Facts.{DiskFacts}
 use Rattle.qq_log.specs.Log.{LogState}
 use Rattle.qq_log.specs.declared.lane.Lane.{Lane}
 use Rattle.qq_raft_model.specs.Group.{Group as GroupState, Seat as SeatState, has_node}
@@ -81,10 +81,9 @@ distinct-by setup k (place ∷ places) apart =
     ))
     (λ _. rest)
 
-module _ {D : Type 0} {tells : D → Bool} {past : D → List Disk} (setup : Setup) (c : Cluster) (held : Held D) (k : ℕ)
-    (x : Node D) (st : Stands tells past setup held c) (low : 0 < k)
-    (here : slice_get held.nodes.items (k - 1) ≡ Some x) where
-  is-node : IsNodeOf tells past setup c k x
+module _ {D : Type 0} {facts : DiskFacts D} (setup : Setup) (c : Cluster) (held : Held D) (k : ℕ) (x : Node D)
+    (st : Stands facts setup held c) (low : 0 < k) (here : slice_get held.nodes.items (k - 1) ≡ Some x) where
+  is-node : IsNodeOf facts setup c k x
   is-node = node-was setup c held k x st low here
 
   -- no two of them have one number
@@ -143,11 +142,11 @@ module _ {D : Type 0} {tells : D → Bool} {past : D → List Disk} (setup : Set
 
 -- ---- a node that is down may be recovered
 
-module _ {D : Type 0} {tells : D → Bool} {past : D → List Disk} (node : NodeId) (held : Held D)
-    (can : CanServe tells past held) (is : IsNodeAt node held)
-    (down : (setup : Setup) (c : Cluster) → Stands tells past setup held c → c.up node.0 ≡ false) where
+module _ {D : Type 0} {facts : DiskFacts D} (node : NodeId) (held : Held D) (can : CanServe facts held)
+    (is : IsNodeAt node held)
+    (down : (setup : Setup) (c : Cluster) → Stands facts setup held c → c.up node.0 ≡ false) where
   own-is : (x : Node D) → slice_get held.nodes.items (node.0 - 1) ≡ Some x
-      → IsNodeOf tells past can.0 can.1 node.0 x
+      → IsNodeOf facts can.0 can.1 node.0 x
   own-is x here = node-was can.0 can.1 held node.0 x can.3 is.0 here
 
   pub may-go_on : MayGoOn node held
@@ -162,13 +161,13 @@ module _ {D : Type 0} {tells : D → Bool} {past : D → List Disk} (node : Node
       here-node : (x : Node D) × (slice_get held.nodes.items (node.0 - 1) ≡ Some x)
       here-node = let own = own-node can.0 can.1 held node can.3 is in (own.node, own.here)
 
-  pub may-step : MayStep tells past node held
+  pub may-step : MayStep facts node held
   may-step = record {
     go_on = may-go_on;
     recover = λ x here. (let was = own-is x here in (
       was.own,
       was.log_is,
-      subst (λ (ids : List QueueId). IsWhole tells past ids (disk_in was.own)) (sym was.queues_are) was.log.whole,
+      subst (λ (ids : List QueueId). IsWhole facts ids (disk_in was.own)) (sym was.queues_are) was.log.whole,
     ));
   }
 
@@ -216,15 +215,15 @@ module _ {D : Type 0} (node : NodeId) (opens : Bool) (lanes : List (Option Lane)
 
 -- ---- a node whose log was recovered
 
-module _ {D : Type 0} {tells : D → Bool} {past : D → List Disk} {faults : D → ℕ} (node : NodeId) (old : Held D)
-    (found : FindsLanes tells past faults node old) (may : MayGoOn node old) where
+module _ {D : Type 0} {facts : DiskFacts D} (node : NodeId) (old : Held D) (found : FindsLanes facts node old)
+    (may : MayGoOn node old) where
   abbrev mid : Held D
   mid = record old { nodes = found.nodes }
 
   there : slice_get found.nodes.items (node.0 - 1) ≡ Some found.turn.new
   there =
       ap (λ (l : List (Node D)). slice_get l (node.0 - 1)) found.turn.is
-      ∙ set-here tells past faults node.0 old.nodes.items found.turn.old found.turn.new found.turn.here
+      ∙ set-here facts node.0 old.nodes.items found.turn.old found.turn.new found.turn.here
 
   -- its queues are as they were
   ids-same : found.turn.new.queues.items ≡ found.turn.old.queues.items

@@ -8,7 +8,8 @@ use Rattle.qq_base.proofs.Lists.{AllByRecursion-in, In as InList}
 use Rattle.qq_base.specs.declared.ids.NodeId.{NodeId}
 use Rattle.qq_base.specs.declared.ids.QueueId.{QueueId}
 use Rattle.qq_base.specs.declared.memory.Memory.TheVariants.{Spent, Want}
-use Rattle.qq_disk.specs.Disk.{Disk, now}
+use Rattle.qq_disk.specs.Disk.{now}
+use Rattle.qq_disk.specs.Facts.{DiskFacts}
 use Rattle.qq_log.specs.Stable.{Stable}
 use Rattle.qq_log.specs.declared.lane.Lane.{Lane}
 use Rattle.qq_lots.specs.Left.{IsBetween, ops_found, state_in}
@@ -100,8 +101,8 @@ lost-to : (empty : Bool) (k : ℕ) (lane : Option Lane) (d : ClusterQueue) (noti
 lost-to true k lane d noticed found lost = lost
 lost-to false k lane d noticed found lost = lost
 
-module _ {D : Type 0} {tells : D → Bool} {past : D → List Disk} {faults : D → ℕ} (node : NodeId) (old : Held D)
-    (at : IsNodeAt node old) (finds : FindsLanes tells past faults node old) where
+module _ {D : Type 0} {facts : DiskFacts D} (node : NodeId) (old : Held D) (at : IsNodeAt node old)
+    (finds : FindsLanes facts node old) where
   abbrev k : ℕ
   k = node.0
 
@@ -111,11 +112,11 @@ module _ {D : Type 0} {tells : D → Bool} {past : D → List Disk} {faults : D 
   abbrev found : List (Option Lane)
   found = finds.lanes
 
-  abbrev turn : NodeTurns (λ (x y : Node D). Recovers tells past faults old.log_bytes x y found) (node.0 - 1)
+  abbrev turn : NodeTurns (λ (x y : Node D). Recovers facts old.log_bytes x y found) (node.0 - 1)
       old.nodes.items finds.nodes.items
   turn = finds.turn
 
-  abbrev rec : Recovers tells past faults old.log_bytes turn.old turn.new found
+  abbrev rec : Recovers facts old.log_bytes turn.old turn.new found
   rec = turn.turns
 
   abbrev handed : Handed
@@ -124,20 +125,21 @@ module _ {D : Type 0} {tells : D → Bool} {past : D → List Disk} {faults : D 
   -- ---- what is given up
 
   gives-up : (new : Held D) → new.nodes ≡ finds.nodes → (setup : Setup) (c : Cluster) → IsReached setup c
-      → Stands tells past setup old c → GivesUp setup c (seen tells past faults old) (seen tells past faults new)
+      → Stands facts setup old c → GivesUp setup c (seen facts old) (seen facts new)
   gives-up new same setup c r st =
       disk-gives_up setup c k [] old new turn.old turn.new rec.own (Open rec.found.wal) tt at.0 turn.here
       (ap (λ (v : Vec (Node D)). v.items) same ∙ turn.is) rec.was (ap (λ (y : Node D). y.log) rec.is)
       (same-disk node old at finds setup c st)
-      (λ told linked. broken-none setup c k (past (disk_in rec.own)) (past rec.found.wal.disk) linked.promised
+      (λ told linked. broken-none setup c k
+      (facts.past (disk_in rec.own)) (facts.past rec.found.wal.disk) linked.promised
       (settles node old at finds setup c st told linked).stays)
 
-  module _ (setup : Setup) (c : Cluster) (r : IsReached setup c) (st : Stands tells past setup old c)
+  module _ (setup : Setup) (c : Cluster) (r : IsReached setup c) (st : Stands facts setup old c)
       (down : c.up k ≡ false) where
-    was : IsNodeOf tells past setup c k turn.old
+    was : IsNodeOf facts setup c k turn.old
     was = node-was setup c old k turn.old st at.0 turn.here
 
-    seen-is : seen tells past faults old k ≡ seen_of tells past faults (disk_in rec.own)
+    seen-is : seen facts old k ≡ seen_of facts (disk_in rec.own)
     seen-is =
         seen-before setup c k [] old mid turn.old turn.new rec.own (Open rec.found.wal) tt at.0 turn.here turn.is
         rec.was
@@ -200,7 +202,7 @@ module _ {D : Type 0} {tells : D → Bool} {past : D → List Disk} {faults : D 
           (lane-none queue rec.has.lanes lost.lane has-lane.is none)
           (subst (MayTakeUp k (c.queue queue.0)) (sym told) may)
 
-      lost-at : IsLostAt tells past faults setup old c node queue noticed many
+      lost-at : IsLostAt facts setup old c node queue noticed many
       lost-at = record {
         among = contains-in queue.0 setup.places own-at.here;
         member = contains-node node (members setup queue.0) own-at.member;
@@ -220,8 +222,7 @@ module _ {D : Type 0} {tells : D → Bool} {past : D → List Disk} {faults : D 
       }
 
       -- and it may with what a disk that was linked keeps
-      never-lost : IsTrue (seen tells past faults old k).tells
-          → IsLinked setup c k (now (seen tells past faults old k).past) → ⊥
+      never-lost : IsTrue (seen facts old k).tells → IsLinked setup c k (now (seen facts old k).past) → ⊥
       never-lost =
           subst (λ (s : Seen). IsTrue s.tells → IsLinked setup c k (now s.past) → ⊥) (sym seen-is)
           (λ told linked. (let s = settles node old at finds setup c st told linked in
@@ -242,21 +243,20 @@ module _ {D : Type 0} {tells : D → Bool} {past : D → List Disk} {faults : D 
     Caused fault = IsTakeEachCaused k handed own_pairs old.queues.items fault
 
     is-refused : (before : Outcome) (fault : RestartFault) → Caused fault
-        → IsRefused tells past faults setup c (k ∷ []) old before fault
+        → IsRefused facts setup c (k ∷ []) old before fault
     is-refused before (faults_of.Damaged other file place) cause = absurd cause
     is-refused before (faults_of.Version other file byte) cause = absurd cause
     is-refused before (faults_of.Lost other queue noticed many) cause =
         let same : node ≡ other = λ i. record { 0 = sym cause.0 i } in
         subst (λ (n : NodeId).
-        IsRefused tells past faults setup c (k ∷ []) old before (faults_of.Lost n queue noticed many))
-        same (
-          restarts-none tells past faults setup c k old before st down,
+        IsRefused facts setup c (k ∷ []) old before (faults_of.Lost n queue noticed many)) same (
+          restarts-none facts setup c k old before st down,
           lost-at queue noticed many cause.1,
         )
     is-refused before (faults_of.Memory memory) cause = tt
 
-    of-memory : (fault : RestartFault) → Caused fault → IsTrue (seen tells past faults old k).tells
-        → IsLinked setup c k (now (seen tells past faults old k).past) → IsOfMemory fault
+    of-memory : (fault : RestartFault) → Caused fault → IsTrue (seen facts old k).tells
+        → IsLinked setup c k (now (seen facts old k).past) → IsOfMemory fault
     of-memory (faults_of.Damaged other file place) cause told linked = cause
     of-memory (faults_of.Version other file byte) cause told linked = cause
     of-memory (faults_of.Lost other queue noticed many) cause told linked =
@@ -270,15 +270,15 @@ module _ {D : Type 0} {tells : D → Bool} {past : D → List Disk} {faults : D 
   cause-is fault stays =
       let there : slice_get finds.nodes.items (k - 1) ≡ Some turn.new =
       ap (λ (l : List (Node D)). slice_get l (k - 1)) turn.is
-      ∙ set-here tells past faults k old.nodes.items turn.old turn.new turn.here in
+      ∙ set-here facts k old.nodes.items turn.old turn.new turn.here in
       subst (λ (y : Node D). IsTakeEachCaused k (handed_of false y.empty) (pairs y.queues.items found) old.queues.items
       fault)
       (some-same stays.own turn.new (sym stays.here ∙ there) ∙ rec.is) stays.cause
 
   pub lost-queue : (new : Held D) (before : Outcome) (fault : RestartFault)
-      → ((setup : Setup) (c : Cluster) → Stands tells past setup old c → c.up node.0 ≡ false)
+      → ((setup : Setup) (c : Cluster) → Stands facts setup old c → c.up node.0 ≡ false)
       → new.nodes ≡ finds.nodes → StaysDown node false found mid fault
-      → Refuses tells past faults (this_node k) (λ setup. IsRestart setup k) old new before fault
+      → Refuses facts (this_node k) (λ setup. IsRestart setup k) old new before fault
   lost-queue new before fault down same stays = record {
     gives_up = gives-up new same;
     logs = λ setup c r st. same-logs setup finds.nodes new.nodes same
@@ -293,24 +293,23 @@ module _ {D : Type 0} {tells : D → Bool} {past : D → List Disk} {faults : D 
   }
 
 -- why a node isn't restarted that was opened before
-pub step-refuses : {D : Type 0} {tells : D → Bool} {past : D → List Disk} {faults : D → ℕ} (node : NodeId)
-    (old new : Held D) (before : Outcome) (fault : RestartFault) → IsNodeAt node old
-    → ((setup : Setup) (c : Cluster) → Stands tells past setup old c → c.up node.0 ≡ false)
-    → MayNotStep tells past faults node false old new fault
-    → Refuses tells past faults (this_node node.0) (λ setup. IsRestart setup node.0) old new before fault
+pub step-refuses : {D : Type 0} {facts : DiskFacts D} (node : NodeId) (old new : Held D) (before : Outcome)
+    (fault : RestartFault) → IsNodeAt node old
+    → ((setup : Setup) (c : Cluster) → Stands facts setup old c → c.up node.0 ≡ false)
+    → MayNotStep facts node false old new fault
+    → Refuses facts (this_node node.0) (λ setup. IsRestart setup node.0) old new before fault
 step-refuses node old new before fault at down (inl back) =
     lost-queue node old at back.found new before fault down back.nodes_are back.stays
 step-refuses node old new before fault at down (inr none) =
     not-restarted node old new at none.0 none.1 before fault down none.2
 
 -- or it is, or its disk fails
-pub step-serves : {D : Type 0} {tells : D → Bool} {past : D → List Disk} {faults : D → ℕ} (node : NodeId)
-    (old new : Held D) (before later : Outcome) → IsNodeAt node old
-    → ((setup : Setup) (c : Cluster) → Stands tells past setup old c → c.up node.0 ≡ false)
-    → Steps tells past faults node false old new before later
-    → Served tells past faults (λ setup. IsRestart setup node.0) old new before later
-step-serves {tells = tells} {past = past} {faults = faults} node old new before later at down (inl up) =
-    subst (Served tells past faults (λ setup. IsRestart setup node.0) old new before) (sym up.1)
+pub step-serves : {D : Type 0} {facts : DiskFacts D} (node : NodeId) (old new : Held D) (before later : Outcome)
+    → IsNodeAt node old
+    → ((setup : Setup) (c : Cluster) → Stands facts setup old c → c.up node.0 ≡ false)
+    → Steps facts node false old new before later → Served facts (λ setup. IsRestart setup node.0) old new before later
+step-serves {facts = facts} node old new before later at down (inl up) =
+    subst (Served facts (λ setup. IsRestart setup node.0) old new before) (sym up.1)
     (restarted node old new before at down up.0)
 step-serves node old new before later at down (inr none) =
     not-recovered node old new recover_faults.Disk at none.0 before down refl later none.1

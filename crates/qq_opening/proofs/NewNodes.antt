@@ -6,7 +6,7 @@ use Rattle.std.proofs.lemmas.List.Elements.{All-from_all_within}
 use Rattle.std.proofs.lemmas.Option.{get_or_from_slice_get, slice_get-get_or, slice_get_within}
 use Rattle.qq_base.specs.declared.ids.NodeId.{NodeId}
 use Rattle.qq_base.specs.declared.ids.QueueId.{QueueId}
-use Rattle.qq_disk.specs.Disk.{Disk}
+use Rattle.qq_disk.specs.Facts.{DiskFacts}
 use Rattle.qq_log.specs.declared.limits.TheConstants.{NODE_LIMIT}
 use Rattle.qq_lots.specs.Lots.{ids_of}
 use Rattle.qq_node_log.specs.Found.{AreDistinct}
@@ -29,14 +29,12 @@ use Rattle.qq_opening.proofs.FoundEach.{own-distinct, own-low}
 use Rattle.qq_opening.proofs.RowsOf.{At, id-at, id-row, is-among, row-id}
 
 -- a node as it is before it is opened
-pub record IsStill {D : Type 0} (tells : D → Bool) (past : D → List Disk) (rows : List QueueRow) (k : ℕ) (own : Node D)
-    : Type 0 where
+pub record IsStill {D : Type 0} (facts : DiskFacts D) (rows : List QueueRow) (k : ℕ) (own : Node D) : Type 0 where
   pub disk : D
   pub is : IsNewNode rows k disk own
-  pub whole : IsWhole tells past disk
+  pub whole : IsWhole facts disk
 
-module _ {D : Type 0} {tells : D → Bool} {past : D → List Disk} (rows : List QueueRow) (old : Held D)
-    (new : AreNew tells past rows old) where
+module _ {D : Type 0} {facts : DiskFacts D} (rows : List QueueRow) (old : Held D) (new : AreNew facts rows old) where
   -- a setup of these rows
   abbrev pub some_setup : Setup
   some_setup = new.set.0
@@ -44,7 +42,7 @@ module _ {D : Type 0} {tells : D → Bool} {past : D → List Disk} (rows : List
   abbrev pub is_set : IsSetupOver some_setup rows (length old.nodes.items)
   is_set = new.set.1
 
-  pub some-stands : Stands tells past some_setup old (new_cluster some_setup)
+  pub some-stands : Stands facts some_setup old (new_cluster some_setup)
   some-stands = new-stands rows old new some_setup is_set
 
   pub some-ids : (k : ℕ) → ids_on rows k ≡ ids_of (lot_of some_setup k)
@@ -78,7 +76,7 @@ module _ {D : Type 0} {tells : D → Bool} {past : D → List Disk} (rows : List
       all-in (q ∷ l) each (inl same) = subst (λ (r : QueueId). 0 < r.0) (sym same) each.0
       all-in (q ∷ l) each (inr later) = all-in l each.1 later
 
-  pub own-still : (i : ℕ) (own : Node D) → slice_get old.nodes.items i ≡ Some own → IsStill tells past rows (i + 1) own
+  pub own-still : (i : ℕ) (own : Node D) → slice_get old.nodes.items i ≡ Some own → IsStill facts rows (i + 1) own
   own-still i own here =
       let disk = item-at new.disks old.nodes.items i own new.nodes.count here in
       record {
@@ -87,10 +85,10 @@ module _ {D : Type 0} {tells : D → Bool} {past : D → List Disk} (rows : List
         whole = whole-at new.disks disk.0 i new.whole disk.1;
       }
     where
-      whole-at : (disks : List D) (x : D) (at : ℕ) → All (IsWhole tells past) disks → slice_get disks at ≡ Some x
-          → IsWhole tells past x
+      whole-at : (disks : List D) (x : D) (at : ℕ) → All (IsWhole facts) disks → slice_get disks at ≡ Some x
+          → IsWhole facts x
       whole-at disks x at all there =
-          subst (IsWhole tells past) (get_or_from_slice_get disks at x x there)
+          subst (IsWhole facts) (get_or_from_slice_get disks at x x there)
           (all at x (slice_get_within disks at x there))
 
   pub few-nodes : length old.nodes.items ≤ NODE_LIMIT
@@ -105,7 +103,7 @@ module _ {D : Type 0} {tells : D → Bool} {past : D → List Disk} (rows : List
 
   -- ---- before anything was opened
 
-  pub opened-none : {faults : D → ℕ} → AreOpened tells past faults rows 0 old old
+  pub opened-none : AreOpened facts rows 0 old old
   opened-none = record {
     lanes = λ k. None;
     same = refl;
@@ -128,7 +126,7 @@ module _ {D : Type 0} {tells : D → Bool} {past : D → List Disk} (rows : List
         down = λ k lt. own.down k;
       }
 
-  pub sound-each : {faults : D → ℕ} (at : ℕ) (held : Held D) → AreOpened tells past faults rows at old held
+  pub sound-each : (at : ℕ) (held : Held D) → AreOpened facts rows at old held
       → All (λ (d : ClusterQueue). AreSound d.group) held.queues.items
   sound-each at held o =
       All-from_all_within (λ (d : ClusterQueue). AreSound d.group) held.queues.items
@@ -139,8 +137,8 @@ module _ {D : Type 0} {tells : D → Bool} {past : D → List Disk} (rows : List
 
   -- ---- the next node may be opened
 
-  module _ {faults : D → ℕ} (at : ℕ) (held : Held D) (o : AreOpened tells past faults rows at old held) (node : NodeId)
-      (is : node.0 ≡ at + 1) (lt : at < length old.nodes.items) where
+  module _ (at : ℕ) (held : Held D) (o : AreOpened facts rows at old held) (node : NodeId) (is : node.0 ≡ at + 1)
+      (lt : at < length old.nodes.items) where
     index : node.0 - 1 ≡ at
     index = omega (arith, is)
 
@@ -151,9 +149,9 @@ module _ {D : Type 0} {tells : D → Bool} {past : D → List Disk} (rows : List
         sym (o.left at (omega arith)) ∙ ap (slice_get held.nodes.items) (sym index) ∙ here
 
     pub next-still : (own : Node D) → slice_get held.nodes.items (node.0 - 1) ≡ Some own
-        → IsStill tells past rows node.0 own
+        → IsStill facts rows node.0 own
     next-still own here =
-        subst (λ (k : ℕ). IsStill tells past rows k own) (sym is) (own-still at own (next-was own here))
+        subst (λ (k : ℕ). IsStill facts rows k own) (sym is) (own-still at own (next-was own here))
 
     next-at : IsNodeAt node held
     next-at = (omega (arith, is), (let many = o.node_count in omega (arith, is, lt, many)))
@@ -181,7 +179,7 @@ module _ {D : Type 0} {tells : D → Bool} {past : D → List Disk} (rows : List
     take-each [] each = tt
     take-each (id ∷ ids) each = (each id (inl refl), take-each ids (λ other later. each other (inr later)))
 
-    pub next-may : MayStep tells past node held
+    pub next-may : MayStep facts node held
     next-may = record {
       go_on = record {
         place = next-at;

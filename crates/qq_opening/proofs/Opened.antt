@@ -1,8 +1,8 @@
 -- What follows the restarts of an opening.
 use Rattle.qq_cluster.specs.Outcome.{Outcome}
-use Rattle.std.proofs.Common.{ℕ, Bool, true, false, List, ◌++◌, refl}
+use Rattle.std.proofs.Common.{Bool, true, false, List, ◌++◌, refl}
 use Rattle.qq_base.specs.declared.memory.Memory.{Memory}
-use Rattle.qq_disk.specs.Disk.{Disk}
+use Rattle.qq_disk.specs.Facts.{DiskFacts}
 use Rattle.qq_cluster.specs.Cluster.{Cluster, ClusterEvent, Setup, cluster_after}
 use Rattle.qq_cluster.specs.Rules.{ForEach, IsFirstTick, IsPump, Then, most_rounds}
 use Rattle.qq_nodes.specs.Nodes.{GaveUp, Served}
@@ -37,18 +37,18 @@ opens-to false setup c events others one other = (
 abbrev Ticks : Setup → Cluster → List ClusterEvent → Type 0
 Ticks setup = ForEach setup.places (IsFirstTick setup)
 
-module _ {D : Type 0} {tells : D → Bool} {past : D → List Disk} {faults : D → ℕ} where
+module _ {D : Type 0} {facts : DiskFacts D} where
   pub opens-served : {mid last new : Held D} {before middle later : Outcome}
-      → Served tells past faults (λ (setup : Setup). ForEach setup.places (IsFirstTick setup)) mid last before middle
-      → Served tells past faults IsPump last new middle later → Served tells past faults Opens mid new before later
+      → Served facts (λ (setup : Setup). ForEach setup.places (IsFirstTick setup)) mid last before middle
+      → Served facts IsPump last new middle later → Served facts Opens mid new before later
   opens-served first second = served-then {First = Ticks} {Second = IsPump} first second
 
   pub ticks-gave_up : {mid new : Held D} {memory : Memory}
-      → GaveUp tells past faults (λ (setup : Setup). ForEach setup.places (IsFirstTick setup)) mid new memory
-      → GaveUp tells past faults Opens mid new memory
+      → GaveUp facts (λ (setup : Setup). ForEach setup.places (IsFirstTick setup)) mid new memory
+      → GaveUp facts Opens mid new memory
   ticks-gave_up given = gave_up-first {First = Ticks} {Second = IsPump} (total-pumps most_rounds) given
 
   pub pump-gave_up : {mid last new : Held D} {before middle : Outcome} {memory : Memory}
-      → Served tells past faults (λ (setup : Setup). ForEach setup.places (IsFirstTick setup)) mid last before middle
-      → GaveUp tells past faults IsPump last new memory → GaveUp tells past faults Opens mid new memory
+      → Served facts (λ (setup : Setup). ForEach setup.places (IsFirstTick setup)) mid last before middle
+      → GaveUp facts IsPump last new memory → GaveUp facts Opens mid new memory
   pump-gave_up first given = gave_up-second {First = Ticks} {Second = IsPump} first given

@@ -10,7 +10,7 @@ use Rattle.qq_base.specs.declared.ids.NodeId.{NodeId}
 use Rattle.qq_base.specs.declared.ids.QueueId.{QueueId}
 use Rattle.qq_base.specs.declared.memory.Memory.{Memory}
 use Rattle.qq_base.specs.declared.memory.Memory.TheVariants.{Spent, Want}
-use Rattle.qq_disk.specs.Disk.{Disk}
+use Rattle.qq_disk.specs.Facts.{DiskFacts}
 use Rattle.qq_raft_model.specs.Group.{new_group}
 use Rattle.qq_raft_model.specs.Promises.{AreDistinct}
 use Rattle.qq_raft_protocol.specs.Facts.{In}
@@ -59,13 +59,13 @@ rose-still a m b before (inr end) more = by (cases_less m b more)
     by (inl same) = inr (sym same ∙ end)
     by (inr less) = inl (omega (arith, before, less))
 
-module _ {D : Type 0} {tells : D → Bool} {past : D → List Disk} {faults : D → ℕ} (rows : List QueueRow) (old : Held D)
-    (new : AreNew tells past rows old) (some : Bool) (held : Held D) (before middle : Outcome)
-    (to : OpenedTo tells past faults rows (length old.nodes.items) some old held before middle) where
+module _ {D : Type 0} {facts : DiskFacts D} (rows : List QueueRow) (old : Held D) (new : AreNew facts rows old)
+    (some : Bool) (held : Held D) (before middle : Outcome)
+    (to : OpenedTo facts rows (length old.nodes.items) some old held before middle) where
   abbrev n : ℕ
   n = length old.nodes.items
 
-  abbrev o : AreOpened tells past faults rows n old held
+  abbrev o : AreOpened facts rows n old held
   o = to.opened
 
   abbrev pub read_logs : Logs
@@ -79,23 +79,22 @@ module _ {D : Type 0} {tells : D → Bool} {past : D → List Disk} {faults : D 
 
   -- they are what was read, also of the disks as they are later
   pub read-later : (final : Held D)
-      → ((k : ℕ) → (seen tells past faults held k).faults ≤ (seen tells past faults final k).faults) → (k : ℕ)
-      → In k (range_with_len 1 n) → IsReadAs tells past faults rows old final k (o.lanes k)
+      → ((k : ℕ) → (seen facts held k).faults ≤ (seen facts final k).faults) → (k : ℕ)
+      → In k (range_with_len 1 n) → IsReadAs facts rows old final k (o.lanes k)
   read-later final rises k here =
       by (o.lanes k) (o.disks k (let low = (range-below 1 n k here).0 in omega (arith, low))
       (let high = (range-below 1 n k here).1 in omega (arith, high)))
     where
       by : (l : Option Lanes)
-          → WasRead (ids_on rows k) (seen tells past faults old k) (seen tells past faults held k) l
-          → IsReadAs tells past faults rows old final k l
+          → WasRead (ids_on rows k) (seen facts old k) (seen facts held k) l → IsReadAs facts rows old final k l
       by None was =
-          rose-still (seen tells past faults old k).faults (seen tells past faults held k).faults
-          (seen tells past faults final k).faults was.rises was.read (rises k)
+          rose-still (seen facts old k).faults (seen facts held k).faults (seen facts final k).faults was.rises
+          was.read (rises k)
       by (Some lanes) was = was.read.0
 
   abbrev pub hold_all : (final : Held D)
-      → ((k : ℕ) → (seen tells past faults held k).faults ≤ (seen tells past faults final k).faults)
-      → HoldLogs tells past faults rows (range_with_len 1 n) old final
+      → ((k : ℕ) → (seen facts held k).faults ≤ (seen facts final k).faults)
+      → HoldLogs facts rows (range_with_len 1 n) old final
   hold_all final rises = record {
     read = record { lanes = o.lanes; each = read-later final rises };
     logs = read_logs;
@@ -117,7 +116,7 @@ module _ {D : Type 0} {tells : D → Bool} {past : D → List Disk} {faults : D 
         distinct setup sw
 
     pub serves-of : (setup : Setup) → IsSetupWith setup rows n read_logs
-        → OpenedServes tells past faults setup n o.lanes some old held before middle
+        → OpenedServes facts setup n o.lanes some old held before middle
     serves-of setup sw = to.serves read_logs setup sw (groups-of setup sw) own are
 
     abbrev own_setup : Setup
@@ -127,7 +126,7 @@ module _ {D : Type 0} {tells : D → Bool} {past : D → List Disk} {faults : D 
     own-with = is-setup_with new.set.0 rows n new.set.1 read_logs own may
 
     -- they stand for a cluster that something has led to
-    pub can-open : CanServe tells past held
+    pub can-open : CanServe facts held
     can-open =
         let s = serves-of own_setup own-with in (
           own_setup,
@@ -140,7 +139,7 @@ module _ {D : Type 0} {tells : D → Bool} {past : D → List Disk} {faults : D 
 
     module _ (setup : Setup) (sw : IsSetupWith setup rows n read_logs) where
       abbrev s : Serves setup (new_cluster setup) (RestartedTo n some setup (new_cluster setup))
-          (Stands tells past setup held) (seen tells past faults old) (seen tells past faults held) before middle
+          (Stands facts setup held) (seen facts old) (seen facts held) before middle
       s = (serves-of setup sw).serves
 
       abbrev c : Cluster
@@ -166,25 +165,24 @@ module _ {D : Type 0} {tells : D → Bool} {past : D → List Disk} {faults : D 
           first-stays k s.did.events others (is_some (o.lanes k)) ((serves-of setup sw).came k here)
 
       -- it was served
-      module _ (final : Held D) (later : Outcome) (served : Served tells past faults Opens held final middle later) where
-        t : Serves setup c (Opens setup c) (Stands tells past setup final) (seen tells past faults held)
-            (seen tells past faults final) middle later
+      module _ (final : Held D) (later : Outcome) (served : Served facts Opens held final middle later) where
+        t : Serves setup c (Opens setup c) (Stands facts setup final) (seen facts held) (seen facts final) middle later
         t = served.serves setup c r s.did.stands
 
         abbrev Both : List ClusterEvent → Type 0
         Both all = IsOpenedTo some setup (new_cluster setup) all × HaveRestarted (range_with_len 1 n) o.lanes all
 
-        whole : Serves setup (new_cluster setup) Both (Stands tells past setup final) (seen tells past faults old)
-            (seen tells past faults final) before later
+        whole : Serves setup (new_cluster setup) Both (Stands facts setup final) (seen facts old)
+            (seen facts final) before later
         whole =
             serves-both setup (new_cluster setup) (RestartedTo n some setup (new_cluster setup)) (Opens setup c) Both
-            (Stands tells past setup held) (Stands tells past setup final) (seen tells past faults old)
-            (seen tells past faults held) (seen tells past faults final) before middle later s t (
+            (Stands facts setup held) (Stands facts setup final) (seen facts old) (seen facts held) (seen facts final)
+            before middle later s t (
               opens-to some setup (new_cluster setup) s.did.events t.did.events restarts t.did.means,
               came-later t.did.events,
             )
 
-        opens-setup : OpensTo tells past faults setup o.lanes some old final before later
+        opens-setup : OpensTo facts setup o.lanes some old final before later
         opens-setup = record {
           groups = groups-of setup sw;
           serves = serves-same whole whole.did.means.0;
@@ -192,19 +190,18 @@ module _ {D : Type 0} {tells : D → Bool} {past : D → List Disk} {faults : D 
         }
 
         pub rises-served : (k : ℕ)
-            → (seen tells past faults held k).faults ≤ (seen tells past faults final k).faults
+            → (seen facts held k).faults ≤ (seen facts final k).faults
         rises-served = t.rises
 
       -- or given up
-      module _ (final : Held D) (memory : Memory) (gave : GaveUp tells past faults Opens held final memory) where
-        up : GivesUp setup c (seen tells past faults held) (seen tells past faults final)
+      module _ (final : Held D) (memory : Memory) (gave : GaveUp facts Opens held final memory) where
+        up : GivesUp setup c (seen facts held) (seen facts final)
         up = gave.gives_up setup c r s.did.stands
 
-        gives-up : GivesUp setup (new_cluster setup) (seen tells past faults old) (seen tells past faults final)
+        gives-up : GivesUp setup (new_cluster setup) (seen facts old) (seen facts final)
         gives-up =
             gives_up-behind setup (new_cluster setup) (RestartedTo n some setup (new_cluster setup))
-            (Stands tells past setup held) (seen tells past faults old) (seen tells past faults held)
-            (seen tells past faults final) before middle s up
+            (Stands facts setup held) (seen facts old) (seen facts held) (seen facts final) before middle s up
 
         still-there : HaveLogs setup final.nodes.items
         still-there = gave.logs setup c r s.did.stands
@@ -215,7 +212,7 @@ module _ {D : Type 0} {tells : D → Bool} {past : D → List Disk} {faults : D 
             ∙ length-range_with_len 1 (length old.nodes.items)
 
         module _ (number : ℕ) (is : memory ≡ Spent number) where
-          e : EndsAt tells past faults setup (Opens setup) held c number
+          e : EndsAt facts setup (Opens setup) held c number
           e = gave.spent number is setup c r s.did.stands
 
           abbrev early : List ClusterEvent
@@ -231,14 +228,12 @@ module _ {D : Type 0} {tells : D → Bool} {past : D → List Disk} {faults : D 
           Spending all =
               Begins (IsOpening setup) (new_cluster setup) all × HaveRestarted (range_with_len 1 n) o.lanes all
 
-          spending : Serves setup (new_cluster setup) Spending (Stands tells past setup e.mid)
-              (seen tells past faults old) (seen tells past faults e.mid) before said
+          spending : Serves setup (new_cluster setup) Spending (Stands facts setup e.mid) (seen facts old)
+              (seen facts e.mid) before said
           spending =
               serves-both setup (new_cluster setup) (RestartedTo n some setup (new_cluster setup))
-              (Begins (Opens setup) c) Spending (Stands tells past setup held) (Stands tells past setup e.mid)
-              (seen tells past faults old) (seen tells past faults held)
-              (seen tells past faults e.mid) before middle said s
-              (serves-from middle e.serves) (
+              (Begins (Opens setup) c) Spending (Stands facts setup held) (Stands facts setup e.mid)
+              (seen facts old) (seen facts held) (seen facts e.mid) before middle said s (serves-from middle e.serves) (
                 record {
                   rest = rest;
                   allowed = record {
@@ -252,7 +247,7 @@ module _ {D : Type 0} {tells : D → Bool} {past : D → List Disk} {faults : D 
                 came-later early,
               )
 
-          ends-setup : (x : EndsAt tells past faults setup (IsOpening setup) old (new_cluster setup) number)
+          ends-setup : (x : EndsAt facts setup (IsOpening setup) old (new_cluster setup) number)
               × HaveRestarted (range_with_len 1 n) o.lanes x.serves.did.events
           ends-setup = (
             record {
@@ -268,15 +263,15 @@ module _ {D : Type 0} {tells : D → Bool} {past : D → List Disk} {faults : D 
 
     -- ---- the calls
 
-    pub opens-over : (final : Held D) (later : Outcome) → Served tells past faults Opens held final middle later
-        → OpensOver tells past faults rows some old final before later
+    pub opens-over : (final : Held D) (later : Outcome) → Served facts Opens held final middle later
+        → OpensOver facts rows some old final before later
     opens-over final later served = record {
       hold = hold_all final (rises-served own_setup own-with final later served);
       opens = λ setup sw. opens-setup setup sw final later served;
     }
 
-    pub opens-gave_up : (final : Held D) (memory : Memory) → GaveUp tells past faults Opens held final memory
-        → MayNotOpen tells past faults rows old final (faults_of.Memory memory)
+    pub opens-gave_up : (final : Held D) (memory : Memory) → GaveUp facts Opens held final memory
+        → MayNotOpen facts rows old final (faults_of.Memory memory)
     opens-gave_up final memory gave = record {
       cause = by memory refl;
       gives_up = inr (hold_all final rises, λ setup sw. gives-up setup sw final memory gave);
@@ -285,10 +280,10 @@ module _ {D : Type 0} {tells : D → Bool} {past : D → List Disk} {faults : D 
       never = λ logs setup sw groups linked none. tt;
     }
       where
-        rises : (k : ℕ) → (seen tells past faults held k).faults ≤ (seen tells past faults final k).faults
+        rises : (k : ℕ) → (seen facts held k).faults ≤ (seen facts final k).faults
         rises = (up own_setup own-with final memory gave).rises
 
-        by : (m : Memory) → memory ≡ m → IsOpenCaused tells past faults rows old final (faults_of.Memory m)
+        by : (m : Memory) → memory ≡ m → IsOpenCaused facts rows old final (faults_of.Memory m)
         by Want is = tt
         by (Spent number) is = inr (record {
           hold = hold_all final rises;

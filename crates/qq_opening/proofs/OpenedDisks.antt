@@ -1,6 +1,6 @@
 -- What recoveries leave of the disks: what was promised is kept, and what was read is what logs hold that the disks
 -- promised.
-use Rattle.std.proofs.Common.{◌≡◌, ◌≤◌, ◌+◌, ℕ, Bool, true, List, [], ◌∷◌, Option, Some, None, length, take, refl, sym, ap, ◌∙◌, subst, inl, inr, arith}
+use Rattle.std.proofs.Common.{◌≡◌, ◌≤◌, ◌+◌, ℕ, true, List, [], ◌∷◌, Option, Some, None, length, take, refl, sym, ap, ◌∙◌, subst, inl, inr, arith}
 use Rattle.std.specs.Prelude.{IsTrue, Ok, slice_get}
 use Rattle.std.specs.List.{range_with_len}
 use Rattle.std.proofs.Math.Seq.{take-length}
@@ -8,7 +8,8 @@ use Rattle.qq_base.proofs.Lists.{AllByRecursion-in, In-filter}
 use Rattle.qq_base.specs.Causes.{Rose}
 use Rattle.qq_base.specs.declared.ids.QueueId.{QueueId}
 use Rattle.qq_disk.proofs.Moments.{adds-none}
-use Rattle.qq_disk.specs.Disk.{Disk, now}
+use Rattle.qq_disk.specs.Disk.{now}
+use Rattle.qq_disk.specs.Facts.{DiskFacts}
 use Rattle.qq_log.specs.Stable.{Stable, new_state, no_snapshot, stable}
 use Rattle.qq_log.specs.declared.op.Op.{Op}
 use Rattle.qq_lots.proofs.Counts.{state-count}
@@ -111,15 +112,14 @@ begun-state g k ops s begun seat is = by (begun.opened.down.plain k (length ops)
 
 -- ---- the disks of a cluster
 
-module _ {D : Type 0} (tells : D → Bool) (past : D → List Disk) (faults : D → ℕ) (rows : List QueueRow)
-    (old left : Held D)
-    (logs : Logs) (setup : Setup) (sw : IsSetupWith setup rows (length old.nodes.items) logs) where
+module _ {D : Type 0} (facts : DiskFacts D) (rows : List QueueRow) (old left : Held D) (logs : Logs) (setup : Setup)
+    (sw : IsSetupWith setup rows (length old.nodes.items) logs) where
   ids-same : (k : ℕ) → ids_on rows k ≡ ids_of (lot_of setup k)
   ids-same k = ids-are setup rows sw.places sw.each k
 
   -- nothing but recoveries has happened
-  pub keeps-give_up : ((k : ℕ) → Keeps (ids_on rows k) (seen tells past faults old k) (seen tells past faults left k))
-      → GivesUp setup (new_cluster setup) (seen tells past faults old) (seen tells past faults left)
+  pub keeps-give_up : ((k : ℕ) → Keeps (ids_on rows k) (seen facts old k) (seen facts left k))
+      → GivesUp setup (new_cluster setup) (seen facts old) (seen facts left)
   keeps-give_up each = record {
     events = [];
     no_crash = λ k. tt;
@@ -133,26 +133,23 @@ module _ {D : Type 0} (tells : D → Bool) (past : D → List Disk) (faults : D 
 
   -- what is read of a disk that keeps what the logs promised is these logs
   module _ (groups : HasGroups setup)
-      (linked : AreLinked tells past faults setup old (new_cluster setup) setup.nodes)
-      (none : (k : ℕ) → In k setup.nodes
-      → Rose (seen tells past faults old k).faults (seen tells past faults left k).faults
+      (linked : AreLinked facts setup old (new_cluster setup) setup.nodes) (none : (k : ℕ) → In k setup.nodes
+      → Rose (seen facts old k).faults (seen facts left k).faults
       → (place : ℕ) → In place setup.places → logs place k ≡ []) where
     linked-at : (k : ℕ) → In k setup.nodes
-        → IsTrue (seen tells past faults old k).tells
-        × IsLinked setup (new_cluster setup) k (now (seen tells past faults old k).past)
+        → IsTrue (seen facts old k).tells × IsLinked setup (new_cluster setup) k (now (seen facts old k).past)
     linked-at k here = by setup.nodes linked here
       where
-        by : (list : List ℕ) → AreLinked tells past faults setup old (new_cluster setup) list → In k list
-            → IsTrue (seen tells past faults old k).tells
-            × IsLinked setup (new_cluster setup) k (now (seen tells past faults old k).past)
+        by : (list : List ℕ) → AreLinked facts setup old (new_cluster setup) list → In k list
+            → IsTrue (seen facts old k).tells × IsLinked setup (new_cluster setup) k (now (seen facts old k).past)
         by [] all here = absurd here
         by (j ∷ list) all (inl same) =
-            subst (λ (i : ℕ). IsTrue (seen tells past faults old i).tells
-            × IsLinked setup (new_cluster setup) i (now (seen tells past faults old i).past)) (sym same) all.0
+            subst (λ (i : ℕ). IsTrue (seen facts old i).tells
+            × IsLinked setup (new_cluster setup) i (now (seen facts old i).past)) (sym same) all.0
         by (j ∷ list) all (inr later) = by list all.1 later
 
     read-at : (k i : ℕ) (row : QueueRow) (lanes : Option Lanes) → In k setup.nodes
-        → IsReadOf (ids_on rows k) (seen tells past faults old k) (seen tells past faults left k) lanes
+        → IsReadOf (ids_on rows k) (seen facts old k) (seen facts left k) lanes
         → slice_get rows i ≡ Some row → is_among k row.members ≡ true
         → stable (logs (i + 1) k) ≡ Some (state_read lanes row.args.queue)
     read-at k i row None here read there member =
@@ -170,8 +167,7 @@ module _ {D : Type 0} (tells : D → Bool) (past : D → List Disk) (faults : D 
         parts : Parts
         parts = parts_at (new_cluster setup) k
 
-        link : IsTrue (seen tells past faults old k).tells
-            × IsLinked setup (new_cluster setup) k (now (seen tells past faults old k).past)
+        link : IsTrue (seen facts old k).tells × IsLinked setup (new_cluster setup) k (now (seen facts old k).past)
         link = linked-at k here
 
         between-all : AllBetween lot parts lanes
@@ -215,7 +211,7 @@ module _ {D : Type 0} (tells : D → Bool) (past : D → List Disk) (faults : D 
 
     pub linked-read : (n : ℕ) (lanes : ℕ → Option Lanes)
         → ((k : ℕ) → In k (range_with_len 1 n) → In k setup.nodes
-        × IsReadOf (ids_on rows k) (seen tells past faults old k) (seen tells past faults left k) (lanes k))
+        × IsReadOf (ids_on rows k) (seen facts old k) (seen facts left k) (lanes k))
         → AreReadLogs rows (range_with_len 1 n) lanes logs
     linked-read n lanes each k i row here there member =
         let own = each k here in read-at k i row (lanes k) own.0 own.1 there member

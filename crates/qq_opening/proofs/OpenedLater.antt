@@ -9,7 +9,7 @@ use Rattle.qq_base.specs.Causes.{Rose}
 use Rattle.qq_base.specs.declared.ids.NodeId.{NodeId}
 use Rattle.qq_base.specs.declared.ids.QueueId.{QueueId}
 use Rattle.qq_base.specs.declared.memory.Memory.TheVariants.{Spent, Want}
-use Rattle.qq_disk.specs.Disk.{Disk}
+use Rattle.qq_disk.specs.Facts.{DiskFacts}
 use Rattle.qq_group.specs.Group.{server_at}
 use Rattle.qq_log.specs.Stable.{stable}
 use Rattle.qq_log.specs.declared.op.Op.{Op}
@@ -49,20 +49,20 @@ from-contains x [] (i, lt, is) = absurd (omega (arith, lt))
 from-contains x (y ∷ xs) (zero, lt, is) = inl (sym is)
 from-contains x (y ∷ xs) (suc i, lt, is) = inr (from-contains x xs (i, omega (arith, lt), is))
 
-module _ {D : Type 0} {tells : D → Bool} {past : D → List Disk} {faults : D → ℕ} (rows : List QueueRow) (old : Held D)
-    (new : AreNew tells past rows old) (some : Bool) (held : Held D) (before middle : Outcome)
-    (to : OpenedTo tells past faults rows (length old.nodes.items) some old held before middle) where
+module _ {D : Type 0} {facts : DiskFacts D} (rows : List QueueRow) (old : Held D) (new : AreNew facts rows old)
+    (some : Bool) (held : Held D) (before middle : Outcome)
+    (to : OpenedTo facts rows (length old.nodes.items) some old held before middle) where
   abbrev n : ℕ
   n = length old.nodes.items
 
-  abbrev o : AreOpened tells past faults rows n old held
+  abbrev o : AreOpened facts rows n old held
   o = to.opened
 
   abbrev a : ℕ → Seen
-  a = seen tells past faults old
+  a = seen facts old
 
   abbrev b : ℕ → Seen
-  b = seen tells past faults held
+  b = seen facts held
 
   all-keep : (k : ℕ) → Keeps (ids_on rows k) (a k) (b k)
   all-keep zero = same-keeps (ids_on rows 0) (a 0) (b 0) refl
@@ -74,18 +74,18 @@ module _ {D : Type 0} {tells : D → Bool} {past : D → List Disk} {faults : D 
           (o.disks (suc j) (omega arith) within)
       by (inr past_end) =
           same-keeps (ids_on rows (suc j)) (a (suc j)) (b (suc j))
-          (seen-same tells past faults old held (suc j) (omega arith) (o.left (suc j - 1) (omega (arith, past_end))))
+          (seen-same facts old held (suc j) (omega arith) (o.left (suc j - 1) (omega (arith, past_end))))
 
-  give-up : GivesUpOver tells past faults rows old held
-  give-up = inl (λ logs setup sw. keeps-give_up tells past faults rows old held logs setup sw all-keep)
+  give-up : GivesUpOver facts rows old held
+  give-up = inl (λ logs setup sw. keeps-give_up facts rows old held logs setup sw all-keep)
 
   linked-all : (logs : Logs) (setup : Setup) → (sw : IsSetupWith setup rows n logs) → HasGroups setup
-      → AreLinked tells past faults setup old (new_cluster setup) setup.nodes
+      → AreLinked facts setup old (new_cluster setup) setup.nodes
       → ((k : ℕ) → In k setup.nodes → Rose (a k).faults (b k).faults
       → (place : ℕ) → In place setup.places → logs place k ≡ [])
       → AreReadLogs rows (range_with_len 1 n) o.lanes logs
   linked-all logs setup sw groups linked none =
-      linked-read tells past faults rows old held logs setup sw groups linked none n o.lanes
+      linked-read facts rows old held logs setup sw groups linked none n o.lanes
       (λ k here. (let within = range-below 1 n k here in
       let first = within.0 in let last = within.1 in (
         subst (In k) (sym sw.nodes) here,
@@ -198,7 +198,7 @@ module _ {D : Type 0} {tells : D → Bool} {past : D → List Disk} {faults : D 
         (sw.seats (at + 1) k) other)
         (disagrees d there) own-begun
 
-    lost-over : IsLostOver tells past faults rows old held node queue found
+    lost-over : IsLostOver facts rows old held node queue found
     lost-over = record {
       low = (let e = lost.place in omega (arith, e));
       row = row;
@@ -227,7 +227,7 @@ module _ {D : Type 0} {tells : D → Bool} {past : D → List Disk} {faults : D 
 
   pub lost-opens : (at : ℕ) → at < length held.queues.items
       → ((d : ClusterQueue) → slice_get held.queues.items at ≡ Some d → Disagrees d) → (fault : RestartFault)
-      → TellsLost at held fault → MayNotOpen tells past faults rows old held fault
+      → TellsLost at held fault → MayNotOpen facts rows old held fault
   lost-opens at lt disagrees fault told = record {
     cause = caused fault told;
     gives_up = give-up;
@@ -236,7 +236,7 @@ module _ {D : Type 0} {tells : D → Bool} {past : D → List Disk} {faults : D 
     never = never fault told;
   }
     where
-      caused : (f : RestartFault) → TellsLost at held f → IsOpenCaused tells past faults rows old held f
+      caused : (f : RestartFault) → TellsLost at held f → IsOpenCaused facts rows old held f
       caused (faults_of.Damaged node file place) told' = absurd told'
       caused (faults_of.Version node file byte) told' = absurd told'
       caused (faults_of.Lost node queue noticed found) told' =
@@ -246,7 +246,7 @@ module _ {D : Type 0} {tells : D → Bool} {past : D → List Disk} {faults : D 
 
       never : (f : RestartFault) → TellsLost at held f → (logs : Logs) (setup : Setup)
           → IsSetupWith setup rows n logs → HasGroups setup
-          → AreLinked tells past faults setup old (new_cluster setup) setup.nodes
+          → AreLinked facts setup old (new_cluster setup) setup.nodes
           → ((k : ℕ) → In k setup.nodes → Rose (a k).faults (b k).faults
           → (place : ℕ) → In place setup.places → logs place k ≡ []) → IsOfMemory f
       never (faults_of.Damaged node file place) told' logs setup sw groups linked none = absurd told'

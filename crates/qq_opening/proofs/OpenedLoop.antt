@@ -7,7 +7,7 @@ use Rattle.std.proofs.lemmas.Bool.{false≢true, true≢false}
 use Rattle.qq_base.proofs.Puts.{put-other}
 use Rattle.qq_base.specs.Fronts.{put}
 use Rattle.qq_base.specs.declared.ids.NodeId.{NodeId}
-use Rattle.qq_disk.specs.Disk.{Disk}
+use Rattle.qq_disk.specs.Facts.{DiskFacts}
 use Rattle.qq_recover.specs.declared.fault.RecoverFault.TheVariants as recover_faults
 use Rattle.qq_setup.specs.declared.queue_row.QueueRow.{QueueRow}
 use Rattle.qq_wal_chain.specs.Lanes.{Lanes}
@@ -30,23 +30,22 @@ use Rattle.qq_opening.proofs.OpenedRules.{serves-down, serves-up}
 use Rattle.qq_opening.proofs.OpenedStep.{left-nodes, opened-empty, opened-up, own_lanes}
 use Rattle.qq_opening.proofs.Untouched.{in-first, range-below}
 
-module _ {D : Type 0} {tells : D → Bool} {past : D → List Disk} {faults : D → ℕ} (rows : List QueueRow) (old : Held D)
-    (new : AreNew tells past rows old) where
-  pub loop-none : (outcome : Outcome) → OpenedTo tells past faults rows 0 false old old outcome outcome
+module _ {D : Type 0} {facts : DiskFacts D} (rows : List QueueRow) (old : Held D) (new : AreNew facts rows old) where
+  pub loop-none : (outcome : Outcome) → OpenedTo facts rows 0 false old old outcome outcome
   loop-none outcome = record {
     opened = opened-none rows old new;
     serves = λ logs setup sw groups own are. record {
       serves = serves-nothing setup (new_cluster setup) (RestartedTo 0 false setup (new_cluster setup))
-          (Stands tells past setup old) (seen tells past faults old) outcome (refl, λ k here. absurd here)
+          (Stands facts setup old) (seen facts old) outcome (refl, λ k here. absurd here)
           (new-stands rows old new setup (setup-over setup rows (length old.nodes.items) logs sw groups));
       came = λ k here. absurd here;
     };
   }
 
   module _ (at : ℕ) (some : Bool) (held : Held D) (before middle : Outcome)
-      (to : OpenedTo tells past faults rows at some old held before middle) (node : NodeId) (is : node.0 ≡ at + 1)
+      (to : OpenedTo facts rows at some old held before middle) (node : NodeId) (is : node.0 ≡ at + 1)
       (lt : at < length old.nodes.items) where
-    pub loop-may : MayStep tells past node held
+    pub loop-may : MayStep facts node held
     loop-may = next-may rows old new at held to.opened node is lt
 
     index : node.0 - 1 ≡ at
@@ -64,46 +63,45 @@ module _ {D : Type 0} {tells : D → Bool} {past : D → List Disk} {faults : D 
         ∙ ap (λ (l : Option Lanes). Some (state_read l row.args.queue))
         (put-other (at + 1) x to.opened.lanes k (λ e. absurd (omega (arith, e, high))))
 
-    went-up : (left : Held D) (step : StepsUp tells past faults node true held left)
+    went-up : (left : Held D) (step : StepsUp facts node true held left)
         → slice_get left.nodes.items at ≡ Some (record step.found.turn.new { up = true; empty = false })
     went-up left step =
         ap (slice_get left.nodes.items) (sym index)
         ∙ ap (λ (l : List (Node D)). slice_get l (node.0 - 1))
         (left-nodes rows old new at held to.opened node is lt left step)
-        ∙ set-here tells past faults node.0 held.nodes.items step.found.turn.old
+        ∙ set-here facts node.0 held.nodes.items step.found.turn.old
         (record step.found.turn.new { up = true; empty = false }) step.found.turn.here
 
-    stayed-down : (left : Held D) (none : FindsNone tells past faults node held left recover_faults.Disk)
+    stayed-down : (left : Held D) (none : FindsNone facts node held left recover_faults.Disk)
         → (slice_get left.nodes.items at ≡ Some none.turn.new) × (none.turn.new.up ≡ false)
     stayed-down left none = (
       ap (slice_get left.nodes.items) (sym index)
           ∙ ap (λ (l : List (Node D)). slice_get l (node.0 - 1)) none.turn.is
-          ∙ set-here tells past faults node.0 held.nodes.items none.turn.old none.turn.new none.turn.here,
+          ∙ set-here facts node.0 held.nodes.items none.turn.old none.turn.new none.turn.here,
       ap (λ (y : Node D). y.up) none.turn.turns.is
           ∙ (next-still rows old new at held to.opened node is lt none.turn.old none.turn.here).is.up_is,
     )
 
     -- what follows of logs that are what was read, with these lanes
     more-opened : (last : Held D) (x : Option Lanes) (more : Bool) (later : Outcome)
-        → ((o : AreOpened tells past faults rows (at + 1) old last) × (o.lanes ≡ put (at + 1) x to.opened.lanes))
+        → ((o : AreOpened facts rows (at + 1) old last) × (o.lanes ≡ put (at + 1) x to.opened.lanes))
         → ((logs : Logs) (setup : Setup) → IsSetupWith setup rows (length old.nodes.items) logs → HasGroups setup
         → AreLogsOf rows logs → AreReadLogs rows (range_with_len 1 (at + 1)) (put (at + 1) x to.opened.lanes) logs
-        → OpenedServes tells past faults setup (at + 1) (put (at + 1) x to.opened.lanes) more old last before later)
-        → OpenedTo tells past faults rows (at + 1) more old last before later
+        → OpenedServes facts setup (at + 1) (put (at + 1) x to.opened.lanes) more old last before later)
+        → OpenedTo facts rows (at + 1) more old last before later
     more-opened last x more later o serves = record {
       opened = o.0;
       serves = λ logs setup sw groups own.
           subst (λ (l : ℕ → Option Lanes). AreReadLogs rows (range_with_len 1 (at + 1)) l logs
-          → OpenedServes tells past faults setup (at + 1) l more old last before later) (sym o.1)
-          (serves logs setup sw groups own);
+          → OpenedServes facts setup (at + 1) l more old last before later) (sym o.1) (serves logs setup sw groups own);
     }
 
     pub loop-more : (left last : Held D) (up more : Bool) (later : Outcome)
-        → Steps tells past faults node true held left middle later → IsMarked at up left last → more ≡ (some || up)
-        → OpenedTo tells past faults rows (at + 1) more old last before later
+        → Steps facts node true held left middle later → IsMarked at up left last → more ≡ (some || up)
+        → OpenedTo facts rows (at + 1) more old last before later
     loop-more left last true more later (inl (step, says)) (same, up) more_is =
-        subst (λ (h : Held D). OpenedTo tells past faults rows (at + 1) more old h before later) (sym same)
-        (subst (OpenedTo tells past faults rows (at + 1) more old left before) (sym says)
+        subst (λ (h : Held D). OpenedTo facts rows (at + 1) more old h before later) (sym same)
+        (subst (OpenedTo facts rows (at + 1) more old left before) (sym says)
         (more-opened left (Some (own_lanes rows old new at held to.opened node is lt step.found)) more middle
         (opened-up rows old new at held to.opened node is lt left step)
         (λ logs setup sw groups own are.
@@ -125,15 +123,14 @@ module _ {D : Type 0} {tells : D → Bool} {past : D → List Disk} {faults : D 
         more more_is)
 
     -- the node is there afterwards
-    pub loop-here : (left : Held D) (later : Outcome) → Steps tells past faults node true held left middle later
+    pub loop-here : (left : Held D) (later : Outcome) → Steps facts node true held left middle later
         → at < length left.nodes.items
     loop-here left later steps =
         let long = by steps in
         let many = to.opened.node_count in
         omega (arith, lt, long, many)
       where
-        by : Steps tells past faults node true held left middle later
-            → length left.nodes.items ≡ length held.nodes.items
+        by : Steps facts node true held left middle later → length left.nodes.items ≡ length held.nodes.items
         by (inl (step, says)) =
             ap length (left-nodes rows old new at held to.opened node is lt left step)
             ∙ set-long held.nodes.items (node.0 - 1) (record step.found.turn.new { up = true; empty = false })
@@ -142,7 +139,7 @@ module _ {D : Type 0} {tells : D → Bool} {past : D → List Disk} {faults : D 
 
   -- all of them
   pub loop-all : (at : ℕ) (some : Bool) (held : Held D) (before later : Outcome) → at ≡ length old.nodes.items
-      → OpenedTo tells past faults rows at some old held before later
-      → OpenedTo tells past faults rows (length old.nodes.items) some old held before later
+      → OpenedTo facts rows at some old held before later
+      → OpenedTo facts rows (length old.nodes.items) some old held before later
   loop-all at some held before later is to =
-      subst (λ (n : ℕ). OpenedTo tells past faults rows n some old held before later) is to
+      subst (λ (n : ℕ). OpenedTo facts rows n some old held before later) is to

@@ -1,5 +1,5 @@
 -- A node isn't opened, after others were.
-use Rattle.std.proofs.Common.{◌≡◌, ◌≢◌, ◌⊎◌, ◌<◌, ◌≤◌, ◌+◌, ◌-◌, ℕ, zero, suc, Bool, true, List, [], ◌∷◌, ◌++◌, Option, Some, None, length, refl, sym, ap, ◌∙◌, subst, inl, inr, arith, append_assoc}
+use Rattle.std.proofs.Common.{◌≡◌, ◌≢◌, ◌⊎◌, ◌<◌, ◌≤◌, ◌+◌, ◌-◌, ℕ, zero, suc, true, List, [], ◌∷◌, ◌++◌, Option, Some, None, length, refl, sym, ap, ◌∙◌, subst, inl, inr, arith, append_assoc}
 use Rattle.std.specs.Global.{Vec}
 use Rattle.std.specs.Prelude.{slice_get}
 use Rattle.std.specs.List.{range_with_len}
@@ -11,7 +11,8 @@ use Rattle.qq_base.specs.declared.ids.NodeId.{NodeId}
 use Rattle.qq_base.specs.declared.ids.QueueId.{QueueId}
 use Rattle.qq_base.specs.declared.memory.Memory.TheVariants.{Spent, Want}
 use Rattle.qq_disk.proofs.Moments.{adds-now}
-use Rattle.qq_disk.specs.Disk.{Disk, now}
+use Rattle.qq_disk.specs.Disk.{now}
+use Rattle.qq_disk.specs.Facts.{DiskFacts}
 use Rattle.qq_log.specs.Stable.{stable}
 use Rattle.qq_log.specs.declared.op.Op.{Op}
 use Rattle.qq_lots.specs.Kept.{KeepsPromised}
@@ -78,16 +79,15 @@ append-first : (xs : List ℕ) (x : ℕ) (ys : List ℕ) → (xs ++ x ∷ []) ++
 append-first xs x ys = append_assoc xs (x ∷ []) ys
 
 -- as it is told
-pub read-as : {D : Type 0} (tells : D → Bool) (past : D → List Disk) (faults : D → ℕ) (rows : List QueueRow)
-    (old left : Held D) (k : ℕ) (lanes : Option Lanes)
-    → IsReadOf (ids_on rows k) (seen tells past faults old k) (seen tells past faults left k) lanes
-    → IsReadAs tells past faults rows old left k lanes
-read-as tells past faults rows old left k None read = read
-read-as tells past faults rows old left k (Some lanes) read = read.0
+pub read-as : {D : Type 0} (facts : DiskFacts D) (rows : List QueueRow) (old left : Held D) (k : ℕ)
+    (lanes : Option Lanes)
+    → IsReadOf (ids_on rows k) (seen facts old k) (seen facts left k) lanes → IsReadAs facts rows old left k lanes
+read-as facts rows old left k None read = read
+read-as facts rows old left k (Some lanes) read = read.0
 
-module _ {D : Type 0} {tells : D → Bool} {past : D → List Disk} {faults : D → ℕ} (rows : List QueueRow) (old : Held D)
-    (new : AreNew tells past rows old) (at : ℕ) (held : Held D) (o : AreOpened tells past faults rows at old held)
-    (node : NodeId) (is : node.0 ≡ at + 1) (lt : at < length old.nodes.items) where
+module _ {D : Type 0} {facts : DiskFacts D} (rows : List QueueRow) (old : Held D) (new : AreNew facts rows old) (at : ℕ)
+    (held : Held D) (o : AreOpened facts rows at old held) (node : NodeId) (is : node.0 ≡ at + 1)
+    (lt : at < length old.nodes.items) where
   low : 0 < node.0
   low = omega (arith, is)
 
@@ -95,24 +95,24 @@ module _ {D : Type 0} {tells : D → Bool} {past : D → List Disk} {faults : D 
   index = omega (arith, is)
 
   abbrev a : ℕ → Seen
-  a = seen tells past faults old
+  a = seen facts old
 
-  seen-first : seen tells past faults held node.0 ≡ a node.0
+  seen-first : seen facts held node.0 ≡ a node.0
   seen-first =
-      seen-same tells past faults old held node.0 low
+      seen-same facts old held node.0 low
       (ap (slice_get held.nodes.items) index ∙ o.left at (omega arith) ∙ ap (slice_get old.nodes.items) (sym index))
 
   -- the nodes so far, and this one
   module _ (left : Held D) (others : (j : ℕ) → (j ≢ node.0)
-      → seen tells past faults left j ≡ seen tells past faults held j)
-      (own : Keeps (ids_on rows node.0) (seen tells past faults held node.0) (seen tells past faults left node.0)) where
+      → seen facts left j ≡ seen facts held j)
+      (own : Keeps (ids_on rows node.0) (seen facts held node.0) (seen facts left node.0)) where
     abbrev b : ℕ → Seen
-    b = seen tells past faults left
+    b = seen facts left
 
     untouched : (k : ℕ) → at + 1 < k → b k ≡ a k
     untouched k above =
         others k (λ e. absurd (omega (arith, e, above, is)))
-        ∙ seen-same tells past faults old held k (omega (arith, above)) (o.left (k - 1) (omega (arith, above)))
+        ∙ seen-same facts old held k (omega (arith, above)) (o.left (k - 1) (omega (arith, above)))
 
     pub all-keep : (k : ℕ) → Keeps (ids_on rows k) (a k) (b k)
     all-keep zero = same-keeps (ids_on rows 0) (a 0) (b 0) refl
@@ -129,7 +129,7 @@ module _ {D : Type 0} {tells : D → Bool} {past : D → List Disk} {faults : D 
         by (inl before) =
             subst (λ (s : Seen). Keeps (ids_on rows (suc j)) (a (suc j)) s)
             (sym (others (suc j) (λ e. absurd (omega (arith, e, before, is)))))
-            (was-keeps (ids_on rows (suc j)) (a (suc j)) (seen tells past faults held (suc j)) (o.lanes (suc j))
+            (was-keeps (ids_on rows (suc j)) (a (suc j)) (seen facts held (suc j)) (o.lanes (suc j))
             (o.disks (suc j) (omega arith) before))
         by (inr above) = later (cases_eq (suc j) (at + 1)) above
 
@@ -138,10 +138,10 @@ module _ {D : Type 0} {tells : D → Bool} {past : D → List Disk} {faults : D 
     before-read k some le =
         subst (λ (s : Seen). IsReadOf (ids_on rows k) (a k) s (o.lanes k))
         (sym (others k (λ e. absurd (omega (arith, e, le, is)))))
-        (was-read_of (ids_on rows k) (a k) (seen tells past faults held k) (o.lanes k) (o.disks k some le))
+        (was-read_of (ids_on rows k) (a k) (seen facts held k) (o.lanes k) (o.disks k some le))
 
-    pub all-give_up : GivesUpOver tells past faults rows old left
-    all-give_up = inl (λ logs setup sw. keeps-give_up tells past faults rows old left logs setup sw all-keep)
+    pub all-give_up : GivesUpOver facts rows old left
+    all-give_up = inl (λ logs setup sw. keeps-give_up facts rows old left logs setup sw all-keep)
 
     in-nodes : (logs : Logs) (setup : Setup) → IsSetupWith setup rows (length old.nodes.items) logs → (k : ℕ) → 0 < k
         → k ≤ at + 1 → In k setup.nodes
@@ -150,8 +150,7 @@ module _ {D : Type 0} {tells : D → Bool} {past : D → List Disk} {faults : D 
 
     -- ---- of this one it is known what was read
 
-    module _ (lanes : Option Lanes) (read : IsReadOf (ids_on rows node.0) (seen tells past faults held node.0)
-        (b node.0) lanes)
+    module _ (lanes : Option Lanes) (read : IsReadOf (ids_on rows node.0) (seen facts held node.0) (b node.0) lanes)
       where
         abbrev pub with_own : ℕ → Option Lanes
         with_own = put (at + 1) lanes o.lanes
@@ -166,23 +165,22 @@ module _ {D : Type 0} {tells : D → Bool} {past : D → List Disk} {faults : D 
             (subst (λ (j : ℕ). IsReadOf (ids_on rows j) (a j) (b j) lanes) is
             (subst (λ (s : Seen). IsReadOf (ids_on rows node.0) s (b node.0) lanes) seen-first read)))
 
-        pub has-with : HasRead tells past faults rows (range_with_len 1 (at + 1)) old left
+        pub has-with : HasRead facts rows (range_with_len 1 (at + 1)) old left
         has-with = record {
           lanes = with_own;
           each = λ k here. (let within = range-below 1 (at + 1) k here in
               let first = within.0 in let last = within.1 in
-              read-as tells past faults rows old left k (with_own k)
-              (with-read k (omega (arith, first)) (omega (arith, last))));
+              read-as facts rows old left k (with_own k) (with-read k (omega (arith, first)) (omega (arith, last))));
         }
 
         -- over disks that keep what the logs promised these are what was read
         pub linked-with : (logs : Logs) (setup : Setup) → (sw : IsSetupWith setup rows (length old.nodes.items) logs)
-            → HasGroups setup → AreLinked tells past faults setup old (new_cluster setup) setup.nodes
+            → HasGroups setup → AreLinked facts setup old (new_cluster setup) setup.nodes
             → ((k : ℕ) → In k setup.nodes → Rose (a k).faults (b k).faults
             → (place : ℕ) → In place setup.places → logs place k ≡ [])
             → AreReadLogs rows (range_with_len 1 (at + 1)) with_own logs
         linked-with logs setup sw groups linked none =
-            linked-read tells past faults rows old left logs setup sw groups linked none (at + 1) with_own
+            linked-read facts rows old left logs setup sw groups linked none (at + 1) with_own
             (λ k here. (let within = range-below 1 (at + 1) k here in
             let first = within.0 in let last = within.1 in (
               in-nodes logs setup sw k (omega (arith, first)) (omega (arith, last)),
@@ -191,14 +189,14 @@ module _ {D : Type 0} {tells : D → Bool} {past : D → List Disk} {faults : D 
 
   -- ---- what was found of it is no log
 
-  module _ (left : Held D) (fault : RestartFault) (back : StepsBack tells past faults node true held left fault) where
-    abbrev finds : FindsLanes tells past faults node held
+  module _ (left : Held D) (fault : RestartFault) (back : StepsBack facts node true held left fault) where
+    abbrev finds : FindsLanes facts node held
     finds = back.found
 
     abbrev x : Node D
     x = finds.turn.old
 
-    abbrev rec : Recovers tells past faults held.log_bytes x finds.turn.new finds.lanes
+    abbrev rec : Recovers facts held.log_bytes x finds.turn.new finds.lanes
     rec = finds.turn.turns
 
     abbrev found_lanes : Lanes
@@ -213,39 +211,37 @@ module _ {D : Type 0} {tells : D → Bool} {past : D → List Disk} {faults : D 
     nodes-are : left.nodes.items ≡ finds.nodes.items
     nodes-are = ap (λ (v : Vec (Node D)). v.items) back.nodes_are
 
-    back-others : (j : ℕ) → (j ≢ node.0) → seen tells past faults left j ≡ seen tells past faults held j
-    back-others = seen-others tells past faults node.0 held left finds.turn.new low (nodes-are ∙ finds.turn.is)
+    back-others : (j : ℕ) → (j ≢ node.0) → seen facts left j ≡ seen facts held j
+    back-others = seen-others facts node.0 held left finds.turn.new low (nodes-are ∙ finds.turn.is)
 
-    seen-back : seen tells past faults left node.0 ≡ seen_of tells past faults rec.found.wal.disk
+    seen-back : seen facts left node.0 ≡ seen_of facts rec.found.wal.disk
     seen-back =
-        seen-own tells past faults left node.0 finds.turn.new (Open rec.found.wal) low
+        seen-own facts left node.0 finds.turn.new (Open rec.found.wal) low
         (ap (λ (l : List (Node D)). slice_get l (node.0 - 1)) (nodes-are ∙ finds.turn.is)
-        ∙ set-here tells past faults node.0 held.nodes.items x finds.turn.new finds.turn.here)
-        (ap (λ (y : Node D). y.log) rec.is)
+        ∙ set-here facts node.0 held.nodes.items x finds.turn.new finds.turn.here) (ap (λ (y : Node D). y.log) rec.is)
 
     as-seen : (P : Seen → Seen → Type 0)
-        → P (seen_of tells past faults (disk_in rec.own)) (seen_of tells past faults rec.found.wal.disk)
-        → P (seen tells past faults held node.0) (seen tells past faults left node.0)
+        → P (seen_of facts (disk_in rec.own)) (seen_of facts rec.found.wal.disk)
+        → P (seen facts held node.0) (seen facts left node.0)
     as-seen P own =
-        subst (λ (s : Seen). P s (seen tells past faults left node.0))
-        (sym (seen-x rows old new at held o node is lt finds))
-        (subst (λ (s : Seen). P (seen_of tells past faults (disk_in rec.own)) s) (sym seen-back) own)
+        subst (λ (s : Seen). P s (seen facts left node.0)) (sym (seen-x rows old new at held o node is lt finds))
+        (subst (λ (s : Seen). P (seen_of facts (disk_in rec.own)) s) (sym seen-back) own)
 
-    back-keeps : Keeps ids (seen tells past faults held node.0) (seen tells past faults left node.0)
+    back-keeps : Keeps ids (seen facts held node.0) (seen facts left node.0)
     back-keeps = as-seen (Keeps ids) (record {
       told = rec.disk.told;
       rises = rec.disk.later;
       keeps = λ tell lot parts same promised.
           (let s = rec.has.settles tell lot parts (x-ids ∙ same) promised in (
             s.stays,
-            adds-now (KeepsPromised lot parts) (past (disk_in rec.own)) (past rec.found.wal.disk) s.stays promised,
+            adds-now (KeepsPromised lot parts)
+            (facts.past (disk_in rec.own)) (facts.past rec.found.wal.disk) s.stays promised,
           ));
     })
 
-    back-read : IsReadOf ids (seen tells past faults held node.0) (seen tells past faults left node.0)
-        (Some found_lanes)
+    back-read : IsReadOf ids (seen facts held node.0) (seen facts left node.0) (Some found_lanes)
     back-read = as-seen (λ s t. IsReadOf ids s t (Some found_lanes)) (
-      (λ tell. ap (λ (l : List QueueId). lanes_read l (shown (now (past (disk_in rec.own))))) (sym x-ids)
+      (λ tell. ap (λ (l : List QueueId). lanes_read l (shown (now (facts.past (disk_in rec.own))))) (sym x-ids)
           ∙ rec.has.read tell),
       λ tell lot parts same promised. (rec.has.settles tell lot parts (x-ids ∙ same) promised).between,
     )
@@ -261,7 +257,7 @@ module _ {D : Type 0} {tells : D → Bool} {past : D → List Disk} {faults : D 
     caused =
         let there : slice_get finds.nodes.items (node.0 - 1) ≡ Some finds.turn.new =
         ap (λ (l : List (Node D)). slice_get l (node.0 - 1)) finds.turn.is
-        ∙ set-here tells past faults node.0 held.nodes.items x finds.turn.new finds.turn.here in
+        ∙ set-here facts node.0 held.nodes.items x finds.turn.new finds.turn.here in
         let queues : back.stays.own.queues.items ≡ ids =
         ap (λ (y : Node D). y.queues.items)
         (some-node back.stays.own finds.turn.new (sym back.stays.here ∙ there) ∙ rec.is)
@@ -313,8 +309,7 @@ module _ {D : Type 0} {tells : D → Bool} {past : D → List Disk} {faults : D 
           (sw.seats queue.0 node.0) read in
           lost.lost.refused (lane-from queue found_lanes lost.lane has.is state.base state.unused)
 
-      lost-over : IsLostOver tells past faults rows old left node queue found
-      unfolding has-with
+      lost-over : IsLostOver facts rows old left node queue found unfolding has-with
       lost-over =
           let index' : own.index ≡ queue.0 - 1 = omega (arith, own-place) in
           record {
@@ -339,22 +334,21 @@ module _ {D : Type 0} {tells : D → Bool} {past : D → List Disk} {faults : D 
           }
 
     back-caused : (f : RestartFault) → IsTakeEachCaused node.0 AsFound (pairs ids finds.lanes) held.queues.items f
-        → IsOpenCaused tells past faults rows old left f
+        → IsOpenCaused facts rows old left f
     back-caused (faults_of.Damaged other file place) cause = absurd cause
     back-caused (faults_of.Version other file byte) cause = absurd cause
     back-caused (faults_of.Lost other queue noticed found) cause = (
       cause.1.lost.noticed_is,
-      subst (λ (n : NodeId). IsLostOver tells past faults rows old left n queue found)
-          (λ i. record { 0 = sym cause.0 i }) (lost-over queue noticed found cause.1),
+      subst (λ (n : NodeId). IsLostOver facts rows old left n queue found) (λ i. record { 0 = sym cause.0 i })
+          (lost-over queue noticed found cause.1),
     )
     back-caused (faults_of.Memory Want) cause = tt
     back-caused (faults_of.Memory (Spent number)) cause = absurd (let e : Spent number ≡ Want = cause in cc)
 
     back-never : (f : RestartFault) → IsTakeEachCaused node.0 AsFound (pairs ids finds.lanes) held.queues.items f
         → (logs : Logs) (setup : Setup) → IsSetupWith setup rows (length old.nodes.items) logs
-        → HasGroups setup → AreLinked tells past faults setup old (new_cluster setup) setup.nodes
-        → ((k : ℕ) → In k setup.nodes
-        → Rose (seen tells past faults old k).faults (seen tells past faults left k).faults
+        → HasGroups setup → AreLinked facts setup old (new_cluster setup) setup.nodes → ((k : ℕ) → In k setup.nodes
+        → Rose (seen facts old k).faults (seen facts left k).faults
         → (place : ℕ) → In place setup.places → logs place k ≡ []) → IsOfMemory f
     back-never (faults_of.Damaged other file place) cause logs setup sw groups linked none = absurd cause
     back-never (faults_of.Version other file byte) cause logs setup sw groups linked none = absurd cause
@@ -365,7 +359,7 @@ module _ {D : Type 0} {tells : D → Bool} {past : D → List Disk} {faults : D 
         (groups queue.0)
     back-never (faults_of.Memory memory) cause logs setup sw groups linked none = tt
 
-    pub back-opens : MayNotOpen tells past faults rows old left fault
+    pub back-opens : MayNotOpen facts rows old left fault
     back-opens = record {
       cause = back-caused fault caused;
       gives_up = all-give_up left back-others back-keeps;

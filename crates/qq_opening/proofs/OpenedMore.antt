@@ -1,12 +1,12 @@
 -- One more node is opened: its queues, and the nodes.
-use Rattle.std.proofs.Common.{◌≡◌, ◌≢◌, ◌<◌, ◌≤◌, ◌+◌, ◌-◌, ℕ, zero, suc, Bool, true, List, Option, Some, None, length, refl, sym, ap, ◌∙◌, subst, inl, inr, arith}
+use Rattle.std.proofs.Common.{◌≡◌, ◌≢◌, ◌<◌, ◌≤◌, ◌+◌, ◌-◌, ℕ, zero, suc, true, List, Option, Some, None, length, refl, sym, ap, ◌∙◌, subst, inl, inr, arith}
 use Rattle.std.specs.Prelude.{slice_get, slice_set}
 use Rattle.std.proofs.lemmas.Bool.{cases_eq}
 use Rattle.qq_base.proofs.Puts.{put-other, put-same}
 use Rattle.qq_base.specs.Fronts.{put}
 use Rattle.qq_base.specs.declared.ids.NodeId.{NodeId}
 use Rattle.qq_base.specs.declared.ids.QueueId.{QueueId}
-use Rattle.qq_disk.specs.Disk.{Disk}
+use Rattle.qq_disk.specs.Facts.{DiskFacts}
 use Rattle.qq_group.specs.Group.{server_at}
 use Rattle.qq_log.specs.Stable.{stable}
 use Rattle.qq_setup.specs.declared.queue_row.QueueRow.{QueueRow}
@@ -29,11 +29,11 @@ node-is : {D : Type 0} (k : ℕ) (nodes : List (Node D)) → 0 < k → node_at k
 node-is zero nodes low = absurd (omega (arith, low))
 node-is (suc k) nodes low = ap (slice_get nodes) (let e : k ≡ suc k - 1 = omega arith in e)
 
-pub seen-same : {D : Type 0} (tells : D → Bool) (past : D → List Disk) (faults : D → ℕ) (a b : Held D) (k : ℕ) → 0 < k
+pub seen-same : {D : Type 0} (facts : DiskFacts D) (a b : Held D) (k : ℕ) → 0 < k
     → slice_get b.nodes.items (k - 1) ≡ slice_get a.nodes.items (k - 1)
-    → seen tells past faults b k ≡ seen tells past faults a k
-seen-same tells past faults a b k low is =
-    ap (seen_in tells past faults) (node-is k b.nodes.items low ∙ is ∙ sym (node-is k a.nodes.items low))
+    → seen facts b k ≡ seen facts a k
+seen-same facts a b k low is =
+    ap (seen_in facts) (node-is k b.nodes.items low ∙ is ∙ sym (node-is k a.nodes.items low))
 
 -- ---- what is known of others
 
@@ -79,9 +79,9 @@ was-read ids a b a' b' lanes first second was =
     subst (λ (x : Seen). WasRead ids x b' lanes) (sym first)
     (subst (λ (y : Seen). WasRead ids a y lanes) (sym second) was)
 
-module _ {D : Type 0} {tells : D → Bool} {past : D → List Disk} {faults : D → ℕ} (rows : List QueueRow) (old : Held D)
-    (new : AreNew tells past rows old) (at : ℕ) (held : Held D) (o : AreOpened tells past faults rows at old held)
-    (node : NodeId) (is : node.0 ≡ at + 1) (lt : at < length old.nodes.items) where
+module _ {D : Type 0} {facts : DiskFacts D} (rows : List QueueRow) (old : Held D) (new : AreNew facts rows old) (at : ℕ)
+    (held : Held D) (o : AreOpened facts rows at old held) (node : NodeId) (is : node.0 ≡ at + 1)
+    (lt : at < length old.nodes.items) where
   low : 0 < node.0
   low = omega (arith, is)
 
@@ -100,8 +100,7 @@ module _ {D : Type 0} {tells : D → Bool} {past : D → List Disk} {faults : D 
       (own : IsOpenedNode rows node.0 lanes z)
       (queues : (i : ℕ) (row : QueueRow) (d : ClusterQueue) → slice_get rows i ≡ Some row
       → slice_get left.queues.items i ≡ Some d → IsOpenedQueue row (put (at + 1) lanes o.lanes) (at + 1) d)
-      (disk : WasRead (ids_on rows node.0) (seen tells past faults held node.0)
-      (seen tells past faults left node.0) lanes)
+      (disk : WasRead (ids_on rows node.0) (seen facts held node.0) (seen facts left node.0) lanes)
     where
       abbrev all_lanes : ℕ → Option Lanes
       all_lanes = put (at + 1) lanes o.lanes
@@ -121,7 +120,7 @@ module _ {D : Type 0} {tells : D → Bool} {past : D → List Disk} {faults : D 
       own-node y there =
           some-same y z (sym there ∙ ap (slice_get left.nodes.items) (sym index)
           ∙ ap (λ (l : List (Node D)). slice_get l (node.0 - 1)) nodes
-          ∙ set-here tells past faults node.0 held.nodes.items x z here)
+          ∙ set-here facts node.0 held.nodes.items x z here)
         where
           some-same : (a b : Node D) → Some a ≡ Some b → a ≡ b
           some-same a b e = cc
@@ -139,38 +138,32 @@ module _ {D : Type 0} {tells : D → Bool} {past : D → List Disk} {faults : D 
             (o.opened i y (omega (arith, below, other)) (sym (others i other) ∙ there))
       ]
 
-      seen-other : (j : ℕ) → (j ≢ node.0) → seen tells past faults left j ≡ seen tells past faults held j
-      seen-other = seen-others tells past faults node.0 held left z low nodes
+      seen-other : (j : ℕ) → (j ≢ node.0) → seen facts left j ≡ seen facts held j
+      seen-other = seen-others facts node.0 held left z low nodes
 
       -- the disk was as it is at first
-      seen-first : seen tells past faults held node.0 ≡ seen tells past faults old node.0
+      seen-first : seen facts held node.0 ≡ seen facts old node.0
       seen-first =
-          seen-same tells past faults old held node.0 low
-          (ap (slice_get held.nodes.items) index ∙ o.left at (omega arith)
+          seen-same facts old held node.0 low (ap (slice_get held.nodes.items) index ∙ o.left at (omega arith)
           ∙ ap (slice_get old.nodes.items) (sym index))
 
       disks : (k : ℕ) → 0 < k → k ≤ at + 1
-          → WasRead (ids_on rows k) (seen tells past faults old k) (seen tells past faults left k) (all_lanes k)
+          → WasRead (ids_on rows k) (seen facts old k) (seen facts left k) (all_lanes k)
       disks k some le =
-          one-more (λ j. WasRead (ids_on rows j) (seen tells past faults old j) (seen tells past faults left j)
-          (all_lanes j))
-          at k le
-          (λ before. more-lanes (λ j l. WasRead (ids_on rows j) (seen tells past faults old j)
-          (seen tells past faults left j) l) (at + 1) lanes o.lanes k (λ e. absurd (omega (arith, e, before)))
-          (was-read (ids_on rows k) (seen tells past faults old k) (seen tells past faults held k)
-          (seen tells past faults old k) (seen tells past faults left k) (o.lanes k) refl
-          (seen-other k (λ e. absurd (omega (arith, e, is, before)))) (o.disks k some before)))
-          (subst (λ (l : Option Lanes). WasRead (ids_on rows (at + 1)) (seen tells past faults old (at + 1))
-          (seen tells past faults left (at + 1)) l) (sym (put-same (at + 1) lanes o.lanes))
-          (subst (λ (j : ℕ). WasRead (ids_on rows j) (seen tells past faults old j)
-          (seen tells past faults left j) lanes)
-          is
-          (was-read (ids_on rows node.0) (seen tells past faults held node.0) (seen tells past faults left node.0)
-          (seen tells past faults old node.0) (seen tells past faults left node.0) lanes (sym seen-first) refl disk)))
+          one-more (λ j. WasRead (ids_on rows j) (seen facts old j) (seen facts left j) (all_lanes j)) at k le
+          (λ before. more-lanes (λ j l. WasRead (ids_on rows j) (seen facts old j) (seen facts left j) l) (at + 1) lanes
+          o.lanes k (λ e. absurd (omega (arith, e, before)))
+          (was-read (ids_on rows k) (seen facts old k) (seen facts held k) (seen facts old k)
+          (seen facts left k) (o.lanes k) refl (seen-other k (λ e. absurd (omega (arith, e, is, before))))
+          (o.disks k some before)))
+          (subst (λ (l : Option Lanes). WasRead (ids_on rows (at + 1)) (seen facts old (at + 1))
+          (seen facts left (at + 1)) l) (sym (put-same (at + 1) lanes o.lanes))
+          (subst (λ (j : ℕ). WasRead (ids_on rows j) (seen facts old j) (seen facts left j) lanes) is
+          (was-read (ids_on rows node.0) (seen facts held node.0) (seen facts left node.0) (seen facts old node.0)
+          (seen facts left node.0) lanes (sym seen-first) refl disk)))
 
       -- with these lanes
-      pub opened-one : (more : AreOpened tells past faults rows (at + 1) old left)
-          × (more.lanes ≡ put (at + 1) lanes o.lanes)
+      pub opened-one : (more : AreOpened facts rows (at + 1) old left) × (more.lanes ≡ put (at + 1) lanes o.lanes)
       opened-one = (
         record {
           lanes = all_lanes;

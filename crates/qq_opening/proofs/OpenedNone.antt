@@ -1,12 +1,13 @@
 -- A node's log isn't recovered as it is opened, after others were.
 use Rattle.qq_nodes.proofs.Outcomes.{no_outcome}
-use Rattle.std.proofs.Common.{◌≡◌, ◌≢◌, ◌<◌, ◌+◌, ◌-◌, ℕ, Bool, true, List, [], ◌∷◌, ◌++◌, Some, length, refl, sym, ap, ◌∙◌, subst, inl, inr, arith}
+use Rattle.std.proofs.Common.{◌≡◌, ◌≢◌, ◌<◌, ◌+◌, ◌-◌, ℕ, true, List, [], ◌∷◌, ◌++◌, Some, length, refl, sym, ap, ◌∙◌, subst, inl, inr, arith}
 use Rattle.std.specs.Prelude.{Err, IsTrue, slice_get}
 use Rattle.std.specs.List.{range_with_len}
 use Rattle.qq_base.specs.declared.ids.NodeId.{NodeId}
 use Rattle.qq_base.specs.declared.ids.QueueId.{QueueId}
 use Rattle.qq_base.specs.declared.memory.Memory.TheVariants.{Spent, Want}
-use Rattle.qq_disk.specs.Disk.{Disk, now}
+use Rattle.qq_disk.specs.Disk.{now}
+use Rattle.qq_disk.specs.Facts.{DiskFacts}
 use Rattle.qq_lots.specs.Left.{state_in}
 use Rattle.qq_node_log.specs.Log.{disk_in}
 use Rattle.qq_node_log.specs.declared.node_log.NodeLog.TheVariants.{Closed}
@@ -75,8 +76,8 @@ pub row-in : (rows : List QueueRow) (k i : ℕ) (row : QueueRow) → slice_get r
 row-in rows k i row here member =
     to-passing (λ (r : QueueRow). r.args.queue) (λ (r : QueueRow). is_among k r.members) rows i row here member
 
-module _ {D : Type 0} {tells : D → Bool} {past : D → List Disk} {faults : D → ℕ} (rows : List QueueRow) (old : Held D)
-    (at : ℕ) (held : Held D) (o : AreOpened tells past faults rows at old held) where
+module _ {D : Type 0} {facts : DiskFacts D} (rows : List QueueRow) (old : Held D) (at : ℕ) (held : Held D)
+    (o : AreOpened facts rows at old held) where
   pub of-ops : (k : ℕ) (l : Lanes) (id : QueueId) → In k (range_with_len 1 at) → o.lanes k ≡ Some l
       → In id (ids_on rows k)
       → IsOfOpsState (state_in l id)
@@ -84,15 +85,14 @@ module _ {D : Type 0} {tells : D → Bool} {past : D → List Disk} {faults : D 
       let within = range-below 1 at k here in
       let first = within.0 in
       let last = within.1 in
-      let was : WasRead (ids_on rows k) (seen tells past faults old k) (seen tells past faults held k) (o.lanes k) =
+      let was : WasRead (ids_on rows k) (seen facts old k) (seen facts held k) (o.lanes k) =
       o.disks k (omega (arith, first)) (omega (arith, last)) in
-      (subst (WasRead (ids_on rows k) (seen tells past faults old k) (seen tells past faults held k)) read was).read.2
-      id among
+      (subst (WasRead (ids_on rows k) (seen facts old k) (seen facts held k)) read was).read.2 id among
 
   -- there are logs that are what was read so far
   abbrev pub hold_first : (left : Held D)
-      → ((k : ℕ) → In k (range_with_len 1 at) → IsReadAs tells past faults rows old left k (o.lanes k))
-      → HoldLogs tells past faults rows (range_with_len 1 at) old left
+      → ((k : ℕ) → In k (range_with_len 1 at) → IsReadAs facts rows old left k (o.lanes k))
+      → HoldLogs facts rows (range_with_len 1 at) old left
   hold_first left read = record {
     read = record { lanes = o.lanes; each = read };
     logs = logs_read rows o.lanes;
@@ -100,10 +100,10 @@ module _ {D : Type 0} {tells : D → Bool} {past : D → List Disk} {faults : D 
     are = logs-come rows (range_with_len 1 at) o.lanes of-ops (row-in rows);
   }
 
-module _ {D : Type 0} {tells : D → Bool} {past : D → List Disk} {faults : D → ℕ} (rows : List QueueRow) (old : Held D)
-    (new : AreNew tells past rows old) (at : ℕ) (held : Held D) (o : AreOpened tells past faults rows at old held)
-    (node : NodeId) (is : node.0 ≡ at + 1) (lt : at < length old.nodes.items) (left : Held D) (cause : RecoverFault)
-    (none : FindsNone tells past faults node held left cause) where
+module _ {D : Type 0} {facts : DiskFacts D} (rows : List QueueRow) (old : Held D) (new : AreNew facts rows old) (at : ℕ)
+    (held : Held D) (o : AreOpened facts rows at old held) (node : NodeId) (is : node.0 ≡ at + 1)
+    (lt : at < length old.nodes.items) (left : Held D) (cause : RecoverFault)
+    (none : FindsNone facts node held left cause) where
   low : 0 < node.0
   low = omega (arith, is)
 
@@ -113,41 +113,38 @@ module _ {D : Type 0} {tells : D → Bool} {past : D → List Disk} {faults : D 
   abbrev y : Node D
   y = none.turn.old
 
-  abbrev fails : FailsToRecover tells past faults y none.turn.new cause
+  abbrev fails : FailsToRecover facts y none.turn.new cause
   fails = none.turn.turns
 
   abbrev a : ℕ → Seen
-  a = seen tells past faults old
+  a = seen facts old
 
   y-ids : y.queues.items ≡ ids_on rows node.0
   y-ids = (next-still rows old new at held o node is lt y none.turn.here).is.queues_are
 
-  others : (j : ℕ) → (j ≢ node.0) → seen tells past faults left j ≡ seen tells past faults held j
-  others = seen-others tells past faults node.0 held left none.turn.new low none.turn.is
+  others : (j : ℕ) → (j ≢ node.0) → seen facts left j ≡ seen facts held j
+  others = seen-others facts node.0 held left none.turn.new low none.turn.is
 
-  seen-y : seen tells past faults held node.0 ≡ seen_of tells past faults (disk_in fails.own)
-  seen-y = seen-own tells past faults held node.0 y fails.own low none.turn.here fails.was
+  seen-y : seen facts held node.0 ≡ seen_of facts (disk_in fails.own)
+  seen-y = seen-own facts held node.0 y fails.own low none.turn.here fails.was
 
-  seen-left : seen tells past faults left node.0 ≡ seen_of tells past faults fails.left
+  seen-left : seen facts left node.0 ≡ seen_of facts fails.left
   seen-left =
-      seen-own tells past faults left node.0 none.turn.new (Closed fails.left) low
+      seen-own facts left node.0 none.turn.new (Closed fails.left) low
       (ap (λ (l : List (Node D)). slice_get l (node.0 - 1)) none.turn.is
-      ∙ set-here tells past faults node.0 held.nodes.items y none.turn.new none.turn.here)
-      (ap (λ (n : Node D). n.log) fails.is)
+      ∙ set-here facts node.0 held.nodes.items y none.turn.new none.turn.here) (ap (λ (n : Node D). n.log) fails.is)
 
   -- it was as it is at first
-  seen-first : a node.0 ≡ seen_of tells past faults (disk_in fails.own)
+  seen-first : a node.0 ≡ seen_of facts (disk_in fails.own)
   seen-first =
-      sym (seen-same tells past faults old held node.0 low
+      sym (seen-same facts old held node.0 low
       (ap (slice_get held.nodes.items) index ∙ o.left at (omega arith) ∙ ap (slice_get old.nodes.items) (sym index)))
       ∙ seen-y
 
-  none-keeps : Keeps (ids_on rows node.0) (seen tells past faults held node.0) (seen tells past faults left node.0)
+  none-keeps : Keeps (ids_on rows node.0) (seen facts held node.0) (seen facts left node.0)
   none-keeps =
-      subst (λ (s : Seen). Keeps (ids_on rows node.0) s (seen tells past faults left node.0)) (sym seen-y)
-      (subst (λ (s : Seen). Keeps (ids_on rows node.0) (seen_of tells past faults (disk_in fails.own)) s)
-      (sym seen-left)
-      (record {
+      subst (λ (s : Seen). Keeps (ids_on rows node.0) s (seen facts left node.0)) (sym seen-y)
+      (subst (λ (s : Seen). Keeps (ids_on rows node.0) (seen_of facts (disk_in fails.own)) s) (sym seen-left) (record {
         told = fails.disk.told;
         rises = fails.disk.later;
         keeps = λ tell lot parts same promised. (fails.keeps tell lot parts (y-ids ∙ same) promised).1;
@@ -160,12 +157,12 @@ module _ {D : Type 0} {tells : D → Bool} {past : D → List Disk} {faults : D 
   reads-as =
       subst (λ (s : Seen). IsTrue s.tells → ReadsAs cause (lanes_read (ids_on rows node.0) (shown (now s.past))))
       (sym seen-first)
-      (subst (λ (ids : List QueueId). IsTrue (tells (disk_in fails.own))
-      → ReadsAs cause (lanes_read ids (shown (now (past (disk_in fails.own)))))) y-ids fails.refused)
+      (subst (λ (ids : List QueueId). IsTrue (facts.tells (disk_in fails.own))
+      → ReadsAs cause (lanes_read ids (shown (now (facts.past (disk_in fails.own)))))) y-ids fails.refused)
 
   refused-over : (fault : RecoverFault)
       → (IsTrue (a node.0).tells → lanes_read (ids_on rows node.0) (shown (now (a node.0).past)) ≡ Err fault)
-      → IsRefusedOver tells past faults rows old left node.0 fault
+      → IsRefusedOver facts rows old left node.0 fault
   refused-over fault read = record {
     first = range_with_len 1 at;
     later = range_with_len (1 + at + 1) (length old.nodes.items - at - 1);
@@ -175,7 +172,7 @@ module _ {D : Type 0} {tells : D → Bool} {past : D → List Disk} {faults : D 
     hold = hold_first rows old at held o left
         (λ k here. (let within = range-below 1 at k here in
         let first = within.0 in let last = within.1 in
-        read-as tells past faults rows old left k (o.lanes k)
+        read-as facts rows old left k (o.lanes k)
         (before-read rows old new at held o node is lt left others none-keeps k (omega (arith, first))
         (omega (arith, last)))));
     read = read;
@@ -185,7 +182,7 @@ module _ {D : Type 0} {tells : D → Bool} {past : D → List Disk} {faults : D 
 
   -- and that of a disk that keeps what logs promised doesn't
   none-refused : (logs : Logs) (setup : Setup) → IsSetupWith setup rows (length old.nodes.items) logs
-      → AreLinked tells past faults setup old (new_cluster setup) setup.nodes → IsNoRefusal cause
+      → AreLinked facts setup old (new_cluster setup) setup.nodes → IsNoRefusal cause
   none-refused logs setup sw linked =
       subst (λ (s : Seen). IsTrue s.tells × IsLinked setup (new_cluster setup) node.0 (now s.past) → IsNoRefusal cause)
       (sym seen-first)
@@ -194,7 +191,7 @@ module _ {D : Type 0} {tells : D → Bool} {past : D → List Disk} {faults : D 
       (by setup.nodes linked (subst (In node.0) (sym sw.nodes)
       (in-first (length old.nodes.items) node.0 low (omega (arith, is, lt)))))
     where
-      by : (list : List ℕ) → AreLinked tells past faults setup old (new_cluster setup) list → In node.0 list
+      by : (list : List ℕ) → AreLinked facts setup old (new_cluster setup) list → In node.0 list
           → IsTrue (a node.0).tells × IsLinked setup (new_cluster setup) node.0 (now (a node.0).past)
       by [] all here = absurd here
       by (j ∷ list) all (inl same) =
@@ -205,8 +202,7 @@ module _ {D : Type 0} {tells : D → Bool} {past : D → List Disk} {faults : D 
 
   spent-none : (number : ℕ) → cause ≡ recover_faults.Memory (Spent number) → (logs : Logs) (setup : Setup)
       → IsSetupWith setup rows (length old.nodes.items) logs → HasGroups setup
-      → (e : EndsAt tells past faults setup (IsOpening setup) old (new_cluster setup) number)
-      × (e.serves.did.events ≡ [])
+      → (e : EndsAt facts setup (IsOpening setup) old (new_cluster setup) number) × (e.serves.did.events ≡ [])
   spent-none number is_spent logs setup sw groups =
       let more : Allowed (IsOpening setup) (new_cluster setup) =
       total-then (ForEach setup.nodes (IsRestart setup)) (Opens setup)
@@ -216,23 +212,24 @@ module _ {D : Type 0} {tells : D → Bool} {past : D → List Disk} {faults : D 
           before = no_outcome;
           said = no_outcome;
           serves = serves-none setup (new_cluster setup) (Begins (IsOpening setup) (new_cluster setup))
-              (Stands tells past setup old) a no_outcome (record { rest = more.0; allowed = more.1 })
+              (Stands facts setup old) a no_outcome (record { rest = more.0; allowed = more.1 })
               (new-stands rows old new setup (setup-over setup rows (length old.nodes.items) logs sw groups));
           at = OnDisk at fails.own
               (record { node = y; here = next-was rows old new at held o node is lt y none.turn.here; is = fails.was })
-              (λ told. subst (IsSpentOn (now (past (disk_in fails.own)))) is_spent (fails.spent told));
-          end = inr (subst (IsRecoverCaused (faults (disk_in fails.own)) (faults fails.left)) is_spent fails.cause);
+              (λ told. subst (IsSpentOn (now (facts.past (disk_in fails.own)))) is_spent (fails.spent told));
+          end = inr (subst (IsRecoverCaused (facts.faults (disk_in fails.own)) (facts.faults fails.left))
+              is_spent fails.cause);
         },
         refl,
       )
 
-  pub give-up : GivesUpOver tells past faults rows old left
+  pub give-up : GivesUpOver facts rows old left
   give-up = all-give_up rows old new at held o node is lt left others none-keeps
 
-  pub refuses : (fault : RestartFault) → IsOpenCaused tells past faults rows old left fault
+  pub refuses : (fault : RestartFault) → IsOpenCaused facts rows old left fault
       → ((logs : Logs) (setup : Setup) → IsSetupWith setup rows (length old.nodes.items) logs
-      → AreLinked tells past faults setup old (new_cluster setup) setup.nodes → IsOfMemory fault)
-      → MayNotOpen tells past faults rows old left fault
+      → AreLinked facts setup old (new_cluster setup) setup.nodes → IsOfMemory fault)
+      → MayNotOpen facts rows old left fault
   refuses fault caused never = record {
     cause = caused;
     gives_up = give-up;
@@ -242,20 +239,18 @@ module _ {D : Type 0} {tells : D → Bool} {past : D → List Disk} {faults : D 
     never = λ logs setup sw groups linked rose. never logs setup sw linked;
   }
 
-pub none-opens : {D : Type 0} {tells : D → Bool} {past : D → List Disk} {faults : D → ℕ} (rows : List QueueRow)
-    (old : Held D) (new : AreNew tells past rows old) (at : ℕ) (held : Held D)
-    (o : AreOpened tells past faults rows at old held) (node : NodeId) (is : node.0 ≡ at + 1)
-    (lt : at < length old.nodes.items) (left : Held D) (cause : RecoverFault) (fault : RestartFault)
-    → FindsNone tells past faults node held left cause → IsFaultOf node cause fault
-    → MayNotOpen tells past faults rows old left fault
-none-opens {tells = tells} {past = past} {faults = faults} rows old new at held o node is lt left recover_faults.Disk
+pub none-opens : {D : Type 0} {facts : DiskFacts D} (rows : List QueueRow) (old : Held D) (new : AreNew facts rows old)
+    (at : ℕ) (held : Held D)
+    (o : AreOpened facts rows at old held) (node : NodeId) (is : node.0 ≡ at + 1) (lt : at < length old.nodes.items)
+    (left : Held D) (cause : RecoverFault) (fault : RestartFault)
+    → FindsNone facts node held left cause → IsFaultOf node cause fault → MayNotOpen facts rows old left fault
+none-opens {facts = facts} rows old new at held o node is lt left recover_faults.Disk
     fault none told =
-    subst (MayNotOpen tells past faults rows old left) (sym told)
+    subst (MayNotOpen facts rows old left) (sym told)
     (refuses rows old new at held o node is lt left recover_faults.Disk none (faults_of.Memory Want) tt
     (λ logs setup sw linked. tt))
-none-opens {tells = tells} {past = past} {faults = faults} rows old new at held o node is lt left
-    (recover_faults.Damaged file place) fault none told =
-    subst (MayNotOpen tells past faults rows old left) (sym told)
+none-opens {facts = facts} rows old new at held o node is lt left (recover_faults.Damaged file place) fault none told =
+    subst (MayNotOpen facts rows old left) (sym told)
     (refuses rows old new at held o node is lt left (recover_faults.Damaged file place) none
     (faults_of.Damaged node file place)
     (refused-over rows old new at held o node is lt left (recover_faults.Damaged file place) none
@@ -263,9 +258,8 @@ none-opens {tells = tells} {past = past} {faults = faults} rows old new at held 
     (reads-as rows old new at held o node is lt left (recover_faults.Damaged file place) none))
     (λ logs setup sw linked. absurd (none-refused rows old new at held o node is lt left
     (recover_faults.Damaged file place) none logs setup sw linked)))
-none-opens {tells = tells} {past = past} {faults = faults} rows old new at held o node is lt left
-    (recover_faults.Version file byte) fault none told =
-    subst (MayNotOpen tells past faults rows old left) (sym told)
+none-opens {facts = facts} rows old new at held o node is lt left (recover_faults.Version file byte) fault none told =
+    subst (MayNotOpen facts rows old left) (sym told)
     (refuses rows old new at held o node is lt left (recover_faults.Version file byte) none
     (faults_of.Version node file byte)
     (refused-over rows old new at held o node is lt left (recover_faults.Version file byte) none
@@ -273,25 +267,24 @@ none-opens {tells = tells} {past = past} {faults = faults} rows old new at held 
     (reads-as rows old new at held o node is lt left (recover_faults.Version file byte) none))
     (λ logs setup sw linked. absurd (none-refused rows old new at held o node is lt left
     (recover_faults.Version file byte) none logs setup sw linked)))
-none-opens {tells = tells} {past = past} {faults = faults} rows old new at held o node is lt left
-    (recover_faults.Memory Want) fault none told =
-    subst (MayNotOpen tells past faults rows old left) (sym told)
+none-opens {facts = facts} rows old new at held o node is lt left (recover_faults.Memory Want) fault none told =
+    subst (MayNotOpen facts rows old left) (sym told)
     (refuses rows old new at held o node is lt left (recover_faults.Memory Want) none (faults_of.Memory Want) tt
     (λ logs setup sw linked. tt))
-none-opens {tells = tells} {past = past} {faults = faults} rows old new at held o node is lt left
+none-opens {facts = facts} rows old new at held o node is lt left
     (recover_faults.Memory (Spent number)) fault none told =
-    subst (MayNotOpen tells past faults rows old left) (sym told)
+    subst (MayNotOpen facts rows old left) (sym told)
     (refuses rows old new at held o node is lt left (recover_faults.Memory (Spent number)) none
     (faults_of.Memory (Spent number))
     (inl (spent-none rows old new at held o node is lt left (recover_faults.Memory (Spent number)) none number refl))
     (λ logs setup sw linked. tt))
 
 -- the next node isn't opened
-pub step-stops : {D : Type 0} {tells : D → Bool} {past : D → List Disk} {faults : D → ℕ} (rows : List QueueRow)
-    (old : Held D) (new : AreNew tells past rows old) (at : ℕ) (held : Held D)
-    (o : AreOpened tells past faults rows at old held) (node : NodeId) (is : node.0 ≡ at + 1)
-    (lt : at < length old.nodes.items) (left : Held D) (fault : RestartFault)
-    → MayNotStep tells past faults node true held left fault → MayNotOpen tells past faults rows old left fault
+pub step-stops : {D : Type 0} {facts : DiskFacts D} (rows : List QueueRow) (old : Held D) (new : AreNew facts rows old)
+    (at : ℕ) (held : Held D)
+    (o : AreOpened facts rows at old held) (node : NodeId) (is : node.0 ≡ at + 1) (lt : at < length old.nodes.items)
+    (left : Held D) (fault : RestartFault)
+    → MayNotStep facts node true held left fault → MayNotOpen facts rows old left fault
 step-stops rows old new at held o node is lt left fault (inl back) =
     back-opens rows old new at held o node is lt left fault back
 step-stops rows old new at held o node is lt left fault (inr (cause, none, told)) =

@@ -11,7 +11,7 @@ use Rattle.qq_base.proofs.Puts.{put-other, put-same}
 use Rattle.qq_base.specs.Fronts.{put}
 use Rattle.qq_base.specs.declared.ids.NodeId.{NodeId}
 use Rattle.qq_base.specs.declared.ids.QueueId.{QueueId}
-use Rattle.qq_disk.specs.Disk.{Disk}
+use Rattle.qq_disk.specs.Facts.{DiskFacts}
 use Rattle.qq_log.specs.Stable.{Stable, stable}
 use Rattle.qq_log.specs.declared.lane.Lane.{Lane}
 use Rattle.qq_lots.specs.Left.{state_in}
@@ -60,12 +60,12 @@ use Rattle.qq_opening.proofs.RestartRules.{each-up, restarted-rule, taken-away}
 use Rattle.qq_opening.proofs.Unrecovered.{always, failed-node, fails-restart, old-queues, same-disk, stops-parts}
 use Rattle.qq_opening.proofs.Untouched.{came-more, each-first, each-seat, in-first, range-below, restart-first, seat_at}
 
-module _ {D : Type 0} {tells : D → Bool} {past : D → List Disk} {faults : D → ℕ} (rows : List QueueRow) (old : Held D)
-    (new : AreNew tells past rows old) (at : ℕ) (held : Held D) (o : AreOpened tells past faults rows at old held)
-    (node : NodeId) (is : node.0 ≡ at + 1) (lt : at < length old.nodes.items) (logs : Logs) (setup : Setup)
+module _ {D : Type 0} {facts : DiskFacts D} (rows : List QueueRow) (old : Held D) (new : AreNew facts rows old) (at : ℕ)
+    (held : Held D) (o : AreOpened facts rows at old held) (node : NodeId) (is : node.0 ≡ at + 1)
+    (lt : at < length old.nodes.items) (logs : Logs) (setup : Setup)
     (sw : IsSetupWith setup rows (length old.nodes.items) logs) (groups : HasGroups setup) (some : Bool)
     (before middle : Outcome)
-    (s : OpenedServes tells past faults setup at o.lanes some old held before middle) where
+    (s : OpenedServes facts setup at o.lanes some old held before middle) where
   low : 0 < node.0
   low = omega (arith, is)
 
@@ -81,7 +81,7 @@ module _ {D : Type 0} {tells : D → Bool} {past : D → List Disk} {faults : D 
   r : IsReached setup c
   r = (events, refl)
 
-  abbrev st : Stands tells past setup held c
+  abbrev st : Stands facts setup held c
   st = s.serves.did.stands
 
   away : In node.0 (take at setup.nodes) → ⊥
@@ -99,9 +99,9 @@ module _ {D : Type 0} {tells : D → Bool} {past : D → List Disk} {faults : D 
   -- ---- with one more
 
   module _ (left : Held D) (own : Option Lanes) (more up : Bool) (later : Outcome) (more_is : more ≡ (some || up))
-      (t : Serves setup c (IsRestart setup node.0 c) (Stands tells past setup left) (seen tells past faults held)
-      (seen tells past faults left) middle later)
-      (up_is : up ≡ (cluster_after c t.did.events).up node.0) (own_is : is_some own ≡ up) where
+      (t : Serves setup c (IsRestart setup node.0 c) (Stands facts setup left) (seen facts held)
+      (seen facts left) middle later) (up_is : up ≡ (cluster_after c t.did.events).up node.0)
+      (own_is : is_some own ≡ up) where
     abbrev lanes : ℕ → Option Lanes
     lanes = put (at + 1) own o.lanes
 
@@ -130,12 +130,12 @@ module _ {D : Type 0} {tells : D → Bool} {past : D → List Disk} {faults : D 
     all-came : HaveRestarted (range_with_len 1 (at + 1)) lanes (events ++ t.did.events)
     all-came = came-more setup lanes at events t.did.events first-came none-came own-came
 
-    whole : Serves setup (new_cluster setup) Both (Stands tells past setup left) (seen tells past faults old)
-        (seen tells past faults left) before later
+    whole : Serves setup (new_cluster setup) Both (Stands facts setup left) (seen facts old)
+        (seen facts left) before later
     whole =
         serves-both setup (new_cluster setup) (RestartedTo at some setup (new_cluster setup)) (IsRestart setup node.0 c)
-        Both (Stands tells past setup held) (Stands tells past setup left) (seen tells past faults old)
-        (seen tells past faults held) (seen tells past faults left) before middle later s.serves t (
+        Both (Stands facts setup held) (Stands facts setup left) (seen facts old) (seen facts held) (seen facts left)
+        before middle later s.serves t (
           restarted-rule setup at some false up more node.0 (length old.nodes.items) (new_cluster setup) events
               t.did.events sw.nodes lt is (sym down) up_is (more_is ∙ ap (λ (b : Bool). some || b) (and-true up))
               s.serves.did.means t.did.means,
@@ -146,12 +146,12 @@ module _ {D : Type 0} {tells : D → Bool} {past : D → List Disk} {faults : D 
         and-true true = refl
         and-true false = refl
 
-    serves-one : OpenedServes tells past faults setup (at + 1) lanes more old left before later
+    serves-one : OpenedServes facts setup (at + 1) lanes more old left before later
     serves-one = record { serves = serves-same whole whole.did.means.0; came = whole.did.means.1 }
 
   -- ---- it was recovered
 
-  module _ (left : Held D) (step : StepsUp tells past faults node true held left)
+  module _ (left : Held D) (step : StepsUp facts node true held left)
       (are : AreReadLogs rows (range_with_len 1 (at + 1))
       (put (at + 1) (Some (own_lanes rows old new at held o node is lt step.found)) o.lanes) logs) where
     abbrev found_lanes : Lanes
@@ -191,8 +191,8 @@ module _ {D : Type 0} {tells : D → Bool} {past : D → List Disk} {faults : D 
         subst (λ (ids : List QueueId). (y : QueueId × Option Lane) → In y (pairs ids step.found.lanes) → (place : ℕ)
         → y.0.0 ≡ place → IsAsFound y.1 (seat_at c place node.0)) ids-same fits-on
 
-    went-up : Serves setup c (IsRestart setup node.0 c) (Stands tells past setup left) (seen tells past faults held)
-        (seen tells past faults left) middle middle
+    went-up : Serves setup c (IsRestart setup node.0 c) (Stands facts setup left) (seen facts held)
+        (seen facts left) middle middle
     went-up = serves-then node held at-node step.found true left step.goes setup c r st down fits middle
 
     abbrev up_node : Node D
@@ -202,17 +202,16 @@ module _ {D : Type 0} {tells : D → Bool} {past : D → List Disk} {faults : D 
     up-then =
         (node-was setup (cluster_after c went-up.did.events) left node.0 up_node went-up.did.stands low
         (ap (λ (l : List (Node D)). slice_get l (node.0 - 1)) (left-nodes rows old new at held o node is lt left step)
-        ∙ set-here tells past faults node.0 held.nodes.items step.found.turn.old up_node step.found.turn.here)).up_is
+        ∙ set-here facts node.0 held.nodes.items step.found.turn.old up_node step.found.turn.here)).up_is
 
     pub serves-up : (more : Bool) → more ≡ (some || true)
-        → OpenedServes tells past faults setup (at + 1) (put (at + 1) (Some found_lanes) o.lanes) more old left before
-        middle
+        → OpenedServes facts setup (at + 1) (put (at + 1) (Some found_lanes) o.lanes) more old left before middle
     serves-up more more_is =
         serves-one left (Some found_lanes) more true middle more_is went-up up-then refl
 
   -- ---- its disk has failed
 
-  module _ (left : Held D) (none : FindsNone tells past faults node held left recover_faults.Disk) (last : Held D)
+  module _ (left : Held D) (none : FindsNone facts node held left recover_faults.Disk) (last : Held D)
       (marked : NodeTurns (λ (y z : Node D). z ≡ record y { up = false; empty = true }) at left.nodes.items
       last.nodes.items) (same : last ≡ record left { nodes = last.nodes }) (own : AreLogsOf rows logs)
       (are : AreReadLogs rows (range_with_len 1 (at + 1)) (put (at + 1) None o.lanes) logs) (later : Outcome)
@@ -223,7 +222,7 @@ module _ {D : Type 0} {tells : D → Bool} {past : D → List Disk} {faults : D 
     abbrev y : Node D
     y = none.turn.old
 
-    abbrev fails : FailsToRecover tells past faults y none.turn.new recover_faults.Disk
+    abbrev fails : FailsToRecover facts y none.turn.new recover_faults.Disk
     fails = none.turn.turns
 
     abbrev z : Node D
@@ -266,7 +265,7 @@ module _ {D : Type 0} {tells : D → Bool} {past : D → List Disk} {faults : D 
     no-parts : parts_at after_it k ≡ (λ (place : ℕ). new_part)
     no-parts = stops-parts c k ∙ (λ i. λ (place : ℕ). no-part place i)
 
-    z-node : IsNodeOf tells past setup after_it k z
+    z-node : IsNodeOf facts setup after_it k z
     z-node =
         let was = failed-node node held left recover_faults.Disk at-node none setup c r st down in
         record {
@@ -287,7 +286,7 @@ module _ {D : Type 0} {tells : D → Bool} {past : D → List Disk} {faults : D 
         (sym (last-queues rows old new at held o node is lt left none last marked same))
         (old-queues node held left recover_faults.Disk at-node none setup c r st down)
 
-    z-stands : Stands tells past setup last after_it
+    z-stands : Stands facts setup last after_it
     z-stands =
         stands-own setup c k (Fails k ∷ []) held last y z (own-fail k, tt)
         (record {
@@ -300,8 +299,8 @@ module _ {D : Type 0} {tells : D → Bool} {past : D → List Disk} {faults : D 
         }) st z-node z-queues refl
         (λ i lt' calm. quiet-stopped setup c.up (c.queue (i + 1)) k (st.quiet i lt' calm))
 
-    stays-down : Serves setup c (λ all. IsRestart setup k c all × (all ≡ Fails k ∷ [])) (Stands tells past setup last)
-        (seen tells past faults held) (seen tells past faults last) middle later
+    stays-down : Serves setup c (λ all. IsRestart setup k c all × (all ≡ Fails k ∷ [])) (Stands facts setup last)
+        (seen facts held) (seen facts last) middle later
     stays-down =
         disk-serves setup c k (Fails k ∷ []) held last y z fails.own (Closed fails.left) (own-fail k, tt) low
         none.turn.here (last-nodes rows old new at held o node is lt left none last marked same) fails.was
@@ -310,11 +309,11 @@ module _ {D : Type 0} {tells : D → Bool} {past : D → List Disk} {faults : D 
         (λ all. IsRestart setup k c all × (all ≡ Fails k ∷ [])) middle later
         (λ failed. fails.cause) (fails-restart setup k c down, refl) z-stands
         (says ∙ line-outcome (codes "node " ++ decimal k ++ codes " stopped\n") middle)
-        (λ told linked. failed-traced setup c k (past (disk_in fails.own)) (past fails.left) linked.promised
+        (λ told linked. failed-traced setup c k (facts.past (disk_in fails.own)) (facts.past fails.left) linked.promised
         (always node held left recover_faults.Disk at-node none setup c r st down told linked).1.0)
 
     pub serves-down : (more : Bool) → more ≡ (some || false)
-        → OpenedServes tells past faults setup (at + 1) (put (at + 1) None o.lanes) more old last before later
+        → OpenedServes facts setup (at + 1) (put (at + 1) None o.lanes) more old last before later
     serves-down more more_is =
         serves-one last None more false later more_is (serves-same stays-down stays-down.did.means.0)
         (sym (ap (λ (l : List ClusterEvent). (cluster_after c l).up k) stays-down.did.means.1 ∙ put-same k false c.up))

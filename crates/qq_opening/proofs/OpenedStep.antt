@@ -1,5 +1,5 @@
 -- One more node is opened: it was recovered, or its disk has failed.
-use Rattle.std.proofs.Common.{◌≡◌, ◌≢◌, ◌⊎◌, ◌<◌, ◌+◌, ◌-◌, ℕ, Bool, true, false, List, Option, Some, None, length, refl, sym, ap, ◌∙◌, subst, inl, inr, arith}
+use Rattle.std.proofs.Common.{◌≡◌, ◌≢◌, ◌⊎◌, ◌<◌, ◌+◌, ◌-◌, ℕ, true, false, List, Option, Some, None, length, refl, sym, ap, ◌∙◌, subst, inl, inr, arith}
 use Rattle.std.specs.Global.{Vec}
 use Rattle.std.specs.Prelude.{is_some, slice_get, slice_set}
 use Rattle.qq_base.proofs.Puts.{put-other, put-same}
@@ -7,7 +7,8 @@ use Rattle.qq_base.specs.Fronts.{put}
 use Rattle.qq_base.specs.declared.ids.NodeId.{NodeId}
 use Rattle.qq_base.specs.declared.ids.QueueId.{QueueId}
 use Rattle.qq_disk.proofs.Moments.{adds-now}
-use Rattle.qq_disk.specs.Disk.{Disk, now}
+use Rattle.qq_disk.specs.Disk.{now}
+use Rattle.qq_disk.specs.Facts.{DiskFacts}
 use Rattle.qq_group.specs.Group.{server_at, server_by}
 use Rattle.qq_log.specs.Stable.{Stable, stable}
 use Rattle.qq_log.specs.declared.lane.Lane.{Lane}
@@ -41,9 +42,9 @@ use Rattle.qq_opening.proofs.OpenedMore.{one-more, opened-one, queue-still}
 use Rattle.qq_opening.proofs.Restarted.{nodes-are, take-own}
 use Rattle.qq_opening.proofs.RowsOf.{to-passing}
 
-module _ {D : Type 0} {tells : D → Bool} {past : D → List Disk} {faults : D → ℕ} (rows : List QueueRow) (old : Held D)
-    (new : AreNew tells past rows old) (at : ℕ) (held : Held D) (o : AreOpened tells past faults rows at old held)
-    (node : NodeId) (is : node.0 ≡ at + 1) (lt : at < length old.nodes.items) where
+module _ {D : Type 0} {facts : DiskFacts D} (rows : List QueueRow) (old : Held D) (new : AreNew facts rows old) (at : ℕ)
+    (held : Held D) (o : AreOpened facts rows at old held) (node : NodeId) (is : node.0 ≡ at + 1)
+    (lt : at < length old.nodes.items) where
   low : 0 < node.0
   low = omega (arith, is)
 
@@ -55,11 +56,11 @@ module _ {D : Type 0} {tells : D → Bool} {past : D → List Disk} {faults : D 
 
   -- ---- what was found on it
 
-  module _ (finds : FindsLanes tells past faults node held) where
+  module _ (finds : FindsLanes facts node held) where
     abbrev x : Node D
     x = finds.turn.old
 
-    abbrev rec : Recovers tells past faults held.log_bytes x finds.turn.new finds.lanes
+    abbrev rec : Recovers facts held.log_bytes x finds.turn.new finds.lanes
     rec = finds.turn.turns
 
     abbrev pub own_lanes : Lanes
@@ -78,26 +79,26 @@ module _ {D : Type 0} {tells : D → Bool} {past : D → List Disk} {faults : D 
         pairs-apart ids own_lanes finds.lanes zip (apart-on rows old new node.0) (low-on rows old new node.0)
 
     -- how the disk is seen, before and after it was read
-    pub seen-x : seen tells past faults held node.0 ≡ seen_of tells past faults (disk_in rec.own)
-    seen-x = seen-own tells past faults held node.0 x rec.own low finds.turn.here rec.was
+    pub seen-x : seen facts held node.0 ≡ seen_of facts (disk_in rec.own)
+    seen-x = seen-own facts held node.0 x rec.own low finds.turn.here rec.was
 
     -- it was read, whatever the members make of that
-    pub read-x : (b : Seen) → b ≡ seen_of tells past faults rec.found.wal.disk
+    pub read-x : (b : Seen) → b ≡ seen_of facts rec.found.wal.disk
         → ((id : QueueId) → In id ids → IsOfOpsState (state_in own_lanes id))
-        → WasRead ids (seen tells past faults held node.0) b (Some own_lanes)
+        → WasRead ids (seen facts held node.0) b (Some own_lanes)
     read-x b seen-b of_ops =
         subst (λ (s : Seen). WasRead ids s b (Some own_lanes)) (sym seen-x)
-        (subst (λ (s : Seen). WasRead ids (seen_of tells past faults (disk_in rec.own)) s (Some own_lanes)) (sym seen-b)
-        (record {
+        (subst (λ (s : Seen). WasRead ids (seen_of facts (disk_in rec.own)) s (Some own_lanes)) (sym seen-b) (record {
           told = rec.disk.told;
           rises = rec.disk.later;
           keeps = λ tell lot parts same promised.
               (let s = rec.has.settles tell lot parts (x-ids ∙ same) promised in (
                 s.stays,
-                adds-now (KeepsPromised lot parts) (past (disk_in rec.own)) (past rec.found.wal.disk) s.stays promised,
+                adds-now (KeepsPromised lot parts)
+                    (facts.past (disk_in rec.own)) (facts.past rec.found.wal.disk) s.stays promised,
               ));
           read = (
-            (λ tell. ap (λ (l : List QueueId). lanes_read l (shown (now (past (disk_in rec.own))))) (sym x-ids)
+            (λ tell. ap (λ (l : List QueueId). lanes_read l (shown (now (facts.past (disk_in rec.own))))) (sym x-ids)
                 ∙ rec.has.read tell),
             (λ tell lot parts same promised.
                 (rec.has.settles tell lot parts (x-ids ∙ same) promised).between),
@@ -107,8 +108,8 @@ module _ {D : Type 0} {tells : D → Bool} {past : D → List Disk} {faults : D 
 
   -- ---- its members go on
 
-  module _ (left : Held D) (step : StepsUp tells past faults node true held left) where
-    abbrev finds' : FindsLanes tells past faults node held
+  module _ (left : Held D) (step : StepsUp facts node true held left) where
+    abbrev finds' : FindsLanes facts node held
     finds' = step.found
 
     abbrev found_lanes : Lanes
@@ -230,12 +231,12 @@ module _ {D : Type 0} {tells : D → Bool} {past : D → List Disk} {faults : D 
     same-else : left ≡ record held { queues = left.queues; nodes = left.nodes }
     same-else = step.goes.is
 
-    pub seen-left : seen tells past faults left node.0 ≡ seen_of tells past faults (rec finds').found.wal.disk
+    pub seen-left : seen facts left node.0 ≡ seen_of facts (rec finds').found.wal.disk
     seen-left =
-        seen-own tells past faults left node.0 (record finds'.turn.new { up = true; empty = false })
+        seen-own facts left node.0 (record finds'.turn.new { up = true; empty = false })
         (Open (rec finds').found.wal) low
         (ap (λ (l : List (Node D)). slice_get l (node.0 - 1)) left-nodes
-        ∙ set-here tells past faults node.0 held.nodes.items own_x
+        ∙ set-here facts node.0 held.nodes.items own_x
         (record finds'.turn.new { up = true; empty = false }) finds'.turn.here)
         (ap (λ (y : Node D). y.log) (rec finds').is)
 
@@ -250,22 +251,22 @@ module _ {D : Type 0} {tells : D → Bool} {past : D → List Disk} {faults : D 
           has_log = (Open (rec finds').found.wal, ap (λ (y : Node D). y.log) (rec finds').is);
         }
 
-    pub opened-up : (more : AreOpened tells past faults rows (at + 1) old left)
+    pub opened-up : (more : AreOpened facts rows (at + 1) old left)
         × (more.lanes ≡ put (at + 1) (Some found_lanes) o.lanes)
     opened-up =
         opened-one rows old new at held o node is lt left own_x (record finds'.turn.new { up = true; empty = false })
         (Some found_lanes) finds'.turn.here left-nodes same-else many own-node queue-each
-        (read-x finds' (seen tells past faults left node.0) seen-left of-ops)
+        (read-x finds' (seen facts left node.0) seen-left of-ops)
 
   -- ---- or its disk has failed
 
-  module _ (left : Held D) (none : FindsNone tells past faults node held left recover_faults.Disk) (last : Held D)
+  module _ (left : Held D) (none : FindsNone facts node held left recover_faults.Disk) (last : Held D)
       (marked : NodeTurns (λ (y z : Node D). z ≡ record y { up = false; empty = true }) at left.nodes.items
       last.nodes.items) (same : last ≡ record left { nodes = last.nodes }) where
     abbrev y : Node D
     y = none.turn.old
 
-    abbrev fails : FailsToRecover tells past faults y none.turn.new recover_faults.Disk
+    abbrev fails : FailsToRecover facts y none.turn.new recover_faults.Disk
     fails = none.turn.turns
 
     abbrev z : Node D
@@ -278,7 +279,7 @@ module _ {D : Type 0} {tells : D → Bool} {past : D → List Disk} {faults : D 
     there =
         ap (slice_get left.nodes.items) (sym index)
         ∙ ap (λ (l : List (Node D)). slice_get l (node.0 - 1)) none.turn.is
-        ∙ set-here tells past faults node.0 held.nodes.items y none.turn.new none.turn.here
+        ∙ set-here facts node.0 held.nodes.items y none.turn.new none.turn.here
 
     some-node : (a b : Node D) → Some a ≡ Some b → a ≡ b
     some-node a b e = cc
@@ -313,21 +314,19 @@ module _ {D : Type 0} {tells : D → Bool} {past : D → List Disk} {faults : D 
     y-still : y.queues.items ≡ ids
     y-still = (next-still rows old new at held o node is lt y none.turn.here).is.queues_are
 
-    seen-y : seen tells past faults held node.0 ≡ seen_of tells past faults (disk_in fails.own)
-    seen-y = seen-own tells past faults held node.0 y fails.own low none.turn.here fails.was
+    seen-y : seen facts held node.0 ≡ seen_of facts (disk_in fails.own)
+    seen-y = seen-own facts held node.0 y fails.own low none.turn.here fails.was
 
-    seen-last : seen tells past faults last node.0 ≡ seen_of tells past faults fails.left
+    seen-last : seen facts last node.0 ≡ seen_of facts fails.left
     seen-last =
-        seen-own tells past faults last node.0 z (Closed fails.left) low
+        seen-own facts last node.0 z (Closed fails.left) low
         (ap (λ (l : List (Node D)). slice_get l (node.0 - 1)) last-nodes
-        ∙ set-here tells past faults node.0 held.nodes.items y z none.turn.here)
-        (ap (λ (n : Node D). n.log) fails.is)
+        ∙ set-here facts node.0 held.nodes.items y z none.turn.here) (ap (λ (n : Node D). n.log) fails.is)
 
-    disk-failed : WasRead ids (seen tells past faults held node.0) (seen tells past faults last node.0) None
+    disk-failed : WasRead ids (seen facts held node.0) (seen facts last node.0) None
     disk-failed =
-        subst (λ (s : Seen). WasRead ids s (seen tells past faults last node.0) None) (sym seen-y)
-        (subst (λ (s : Seen). WasRead ids (seen_of tells past faults (disk_in fails.own)) s None) (sym seen-last)
-        (record {
+        subst (λ (s : Seen). WasRead ids s (seen facts last node.0) None) (sym seen-y)
+        (subst (λ (s : Seen). WasRead ids (seen_of facts (disk_in fails.own)) s None) (sym seen-last) (record {
           told = fails.disk.told;
           rises = fails.disk.later;
           keeps = λ tell lot parts e promised. (fails.keeps tell lot parts (y-still ∙ e) promised).1;
@@ -345,8 +344,7 @@ module _ {D : Type 0} {tells : D → Bool} {past : D → List Disk} {faults : D 
           has_log = (Closed fails.left, ap (λ (n : Node D). n.log) fails.is);
         }
 
-    pub opened-empty : (more : AreOpened tells past faults rows (at + 1) old last)
-        × (more.lanes ≡ put (at + 1) None o.lanes)
+    pub opened-empty : (more : AreOpened facts rows (at + 1) old last) × (more.lanes ≡ put (at + 1) None o.lanes)
     opened-empty =
         opened-one rows old new at held o node is lt last y z None none.turn.here last-nodes last-same
         (ap (λ (q : Vec ClusterQueue). length q.items) last-queues) empty-node queue-kept disk-failed

@@ -1,8 +1,9 @@
 -- A node's log is recovered.
-use Rattle.std.proofs.Common.{◌≡◌, ℕ, Bool, List, Some, refl, sym, ap, subst, ◌∙◌}
+use Rattle.std.proofs.Common.{◌≡◌, ℕ, List, Some, refl, sym, ap, subst, ◌∙◌}
 use Rattle.std.specs.Prelude.{IsTrue}
 use Rattle.qq_base.specs.declared.ids.QueueId.{QueueId}
-use Rattle.qq_disk.specs.Disk.{Disk, now}
+use Rattle.qq_disk.specs.Disk.{now}
+use Rattle.qq_disk.specs.Facts.{DiskFacts}
 use Rattle.qq_node_log.specs.Found.{FailsKeeping, HasFound}
 use Rattle.qq_node_log.specs.Log.{IsWhole, disk_in}
 use Rattle.qq_node_log.specs.Steps.{SameDisk}
@@ -17,52 +18,53 @@ use Rattle.qq_opening.specs.Taking.{FailsToRecover, MayRecover, Recovers}
 use Rattle.qq_nodes.specs.declared.node.Node.{Node}
 
 -- a log that may be recovered is the node's
-pub may-read : {D : Type 0} (tells : D → Bool) (past : D → List Disk) (node : Node D) (log : NodeLog D)
-    (queues : List QueueId) (disk : D) → MayRecover tells past node → node.log ≡ Some log → disk ≡ disk_in log
-    → queues ≡ node.queues.items → IsWhole tells past queues disk
-may-read {D = D} tells past node log queues disk may is own same =
+pub may-read : {D : Type 0} (facts : DiskFacts D) (node : Node D) (log : NodeLog D) (queues : List QueueId) (disk : D)
+    → MayRecover facts node → node.log ≡ Some log → disk ≡ disk_in log
+    → queues ≡ node.queues.items → IsWhole facts queues disk
+may-read {D = D} facts node log queues disk may is own same =
     let there : may.0 ≡ log = (let e : Some may.0 ≡ Some log = sym may.1 ∙ is in cc) in
-    subst (λ (ids : List QueueId). IsWhole tells past ids disk) (sym same)
-    (subst (λ (d : D). IsWhole tells past node.queues.items d) (ap disk_in there ∙ sym own) may.2)
+    subst (λ (ids : List QueueId). IsWhole facts ids disk) (sym same)
+    (subst (λ (d : D). IsWhole facts node.queues.items d) (ap disk_in there ∙ sym own) may.2)
 
-module _ {D : Type 0} {tells : D → Bool} {past : D → List Disk} {faults : D → ℕ} (old new : Node D) (own : NodeLog D)
-    (was : old.log ≡ Some own) where
+module _ {D : Type 0} {facts : DiskFacts D} (old new : Node D) (own : NodeLog D) (was : old.log ≡ Some own) where
   pub recovered : (log_bytes : ℕ) (found : Found D) (queues : List QueueId) (disk : D) → disk ≡ disk_in own
-      → queues ≡ old.queues.items → HasFound tells past queues log_bytes disk found
-      → SameDisk tells past faults queues disk found.wal.disk → new ≡ record old { log = Some (Open found.wal) }
-      → Recovers tells past faults log_bytes old new found.lanes.items
+      → queues ≡ old.queues.items → HasFound facts queues log_bytes disk found
+      → SameDisk facts queues disk found.wal.disk → new ≡ record old { log = Some (Open found.wal) }
+      → Recovers facts log_bytes old new found.lanes.items
   recovered log_bytes found queues disk is same has kept next = record {
     own = own;
     was = was;
     found = found;
     lanes_are = refl;
-    has = subst (λ (l : List QueueId). HasFound tells past l log_bytes (disk_in own) found) same
-        (subst (λ (d : D). HasFound tells past queues log_bytes d found) is has);
-    disk = subst (λ (l : List QueueId). SameDisk tells past faults l (disk_in own) found.wal.disk) same
-        (subst (λ (d : D). SameDisk tells past faults queues d found.wal.disk) is kept);
+    has = subst (λ (l : List QueueId). HasFound facts l log_bytes (disk_in own) found) same
+        (subst (λ (d : D). HasFound facts queues log_bytes d found) is has);
+    disk = subst (λ (l : List QueueId). SameDisk facts l (disk_in own) found.wal.disk) same
+        (subst (λ (d : D). SameDisk facts queues d found.wal.disk) is kept);
     is = next;
   }
 
   pub refused : (fault : RecoverFault) (left : D) (queues : List QueueId) (disk : D) → disk ≡ disk_in own
-      → queues ≡ old.queues.items → SameDisk tells past faults queues disk left
-      → (IsTrue (tells disk) → FailsKeeping queues (past disk) (past left) fault)
-      → (IsTrue (tells disk) → Fails fault (lanes_read queues (shown (now (past disk)))))
-      → (IsTrue (tells disk) → IsSpentOn (now (past disk)) fault)
-      → IsRecoverCaused (faults disk) (faults left) fault → new ≡ record old { log = Some (Closed left) }
-      → FailsToRecover tells past faults old new fault
+      → queues ≡ old.queues.items → SameDisk facts queues disk left
+      → (IsTrue (facts.tells disk) → FailsKeeping queues (facts.past disk) (facts.past left) fault)
+      → (IsTrue (facts.tells disk) → Fails fault (lanes_read queues (shown (now (facts.past disk)))))
+      → (IsTrue (facts.tells disk) → IsSpentOn (now (facts.past disk)) fault)
+      → IsRecoverCaused (facts.faults disk) (facts.faults left) fault → new ≡ record old { log = Some (Closed left) }
+      → FailsToRecover facts old new fault
   refused fault left queues disk is same kept keeps' fails spent cause next = record {
     own = own;
     was = was;
     left = left;
-    disk = subst (λ (l : List QueueId). SameDisk tells past faults l (disk_in own) left) same
-        (subst (λ (d : D). SameDisk tells past faults queues d left) is kept);
+    disk = subst (λ (l : List QueueId). SameDisk facts l (disk_in own) left) same
+        (subst (λ (d : D). SameDisk facts queues d left) is kept);
     is = next;
-    keeps = subst (λ (l : List QueueId). IsTrue (tells (disk_in own))
-        → FailsKeeping l (past (disk_in own)) (past left) fault) same
-        (subst (λ (d : D). IsTrue (tells d) → FailsKeeping queues (past d) (past left) fault) is keeps');
-    refused = subst (λ (l : List QueueId). IsTrue (tells (disk_in own))
-        → Fails fault (lanes_read l (shown (now (past (disk_in own)))))) same
-        (subst (λ (d : D). IsTrue (tells d) → Fails fault (lanes_read queues (shown (now (past d))))) is fails);
-    spent = subst (λ (d : D). IsTrue (tells d) → IsSpentOn (now (past d)) fault) is spent;
-    cause = subst (λ (d : D). IsRecoverCaused (faults d) (faults left) fault) is cause;
+    keeps = subst (λ (l : List QueueId). IsTrue (facts.tells (disk_in own))
+        → FailsKeeping l (facts.past (disk_in own)) (facts.past left) fault) same
+        (subst (λ (d : D). IsTrue (facts.tells d) → FailsKeeping queues (facts.past d) (facts.past left)
+        fault) is keeps');
+    refused = subst (λ (l : List QueueId). IsTrue (facts.tells (disk_in own))
+        → Fails fault (lanes_read l (shown (now (facts.past (disk_in own)))))) same
+        (subst (λ (d : D). IsTrue (facts.tells d) → Fails fault (lanes_read queues (shown (now (facts.past d))))) is
+        fails);
+    spent = subst (λ (d : D). IsTrue (facts.tells d) → IsSpentOn (now (facts.past d)) fault) is spent;
+    cause = subst (λ (d : D). IsRecoverCaused (facts.faults d) (facts.faults left) fault) is cause;
   }

@@ -5,7 +5,7 @@ use Rattle.std.specs.List.{list_any, range_with_len}
 use Rattle.std.proofs.lemmas.Bool.{cases_eq, false≢true, or_left, or_right, true≢false}
 use Rattle.std.proofs.lemmas.List.Folds.{list_any-append}
 use Rattle.qq_base.specs.declared.memory.Memory.{Memory}
-use Rattle.qq_disk.specs.Disk.{Disk}
+use Rattle.qq_disk.specs.Facts.{DiskFacts}
 use Rattle.qq_cluster.specs.Cluster.{Cluster, ClusterEvent, Setup, cluster_after}
 use Rattle.qq_cluster.specs.Rules.{ForEach, IsFound, IsNothing, IsOpening, IsRestart, if_so}
 use Rattle.qq_cluster_laws.specs.Serves.{fails_at, is_failure_at}
@@ -51,28 +51,27 @@ any-none up a (suc n) each =
     ∙ any-none up (a + 1) n (λ k low high. each k (omega (arith, low)) (omega (arith, high)))
 
 -- none of the first so many nodes is up
-abbrev pub NoneTo : {D : Type 0} → (D → Bool) → (D → List Disk) → Held D → ℕ → Type 0
-NoneTo tells past held at =
-    (setup : Setup) (c : Cluster) → Stands tells past setup held c → (k : ℕ) → 0 < k → k ≤ at → c.up k ≡ false
+abbrev pub NoneTo : {D : Type 0} → DiskFacts D → Held D → ℕ → Type 0
+NoneTo facts held at =
+    (setup : Setup) (c : Cluster) → Stands facts setup held c → (k : ℕ) → 0 < k → k ≤ at → c.up k ≡ false
 
-module _ {D : Type 0} {tells : D → Bool} {past : D → List Disk} where
-  pub one-up : (held : Held D) (at node : ℕ) (setup : Setup) (c : Cluster) → Stands tells past setup held c
+module _ {D : Type 0} {facts : DiskFacts D} where
+  pub one-up : (held : Held D) (at node : ℕ) (setup : Setup) (c : Cluster) → Stands facts setup held c
       → at < length held.nodes.items → node ≡ at + 1 → c.up node ≡ true → true ≡ list_any c.up setup.nodes
   one-up held at node setup c st lt is up =
       sym (ap (list_any c.up) st.set_up.nodes
       ∙ any-at c.up 1 (length held.nodes.items) node (omega (arith, is)) (omega (arith, is, lt)) up)
 
-  pub none-more : (held : Held D) (at node : ℕ) (up : Bool) → NoneTo tells past held at → up ≡ false
-      → ((setup : Setup) (c : Cluster) → Stands tells past setup held c → node ≡ at + 1)
-      → ((setup : Setup) (c : Cluster) → Stands tells past setup held c → up ≡ c.up node)
-      → NoneTo tells past held (at + 1)
+  pub none-more : (held : Held D) (at node : ℕ) (up : Bool) → NoneTo facts held at → up ≡ false
+      → ((setup : Setup) (c : Cluster) → Stands facts setup held c → node ≡ at + 1)
+      → ((setup : Setup) (c : Cluster) → Stands facts setup held c → up ≡ c.up node) → NoneTo facts held (at + 1)
   none-more held at node up none down is own setup c st k low high = elim (cases_eq k (at + 1)) [
     | inl last ↦ ap c.up (last ∙ sym (is setup c st)) ∙ sym (own setup c st) ∙ down
     | inr other ↦ none setup c st k low (omega (arith, high, other))
   ]
 
   pub none-up : (held : Held D) (at : ℕ) (setup : Setup) (c : Cluster) → length held.nodes.items ≤ at
-      → NoneTo tells past held at → Stands tells past setup held c → false ≡ list_any c.up setup.nodes
+      → NoneTo facts held at → Stands facts setup held c → false ≡ list_any c.up setup.nodes
   none-up held at setup c le none st =
       sym (ap (list_any c.up) st.set_up.nodes
       ∙ any-none c.up 1 (length held.nodes.items) (λ k low high. none setup c st k (omega (arith, low))
@@ -157,11 +156,11 @@ reopening-opens some setup c events so =
 
 -- ---- the call
 
-module _ {D : Type 0} {tells : D → Bool} {past : D → List Disk} {faults : D → ℕ} where
+module _ {D : Type 0} {facts : DiskFacts D} where
   restarted-to : {old mid : Held D} {before middle : Outcome} (some : Bool)
-      → Served tells past faults Restarts old mid before middle
-      → ((setup : Setup) (c : Cluster) → Stands tells past setup mid c → some ≡ list_any c.up setup.nodes)
-      → Served tells past faults (IsRestartedTo some) old mid before middle
+      → Served facts Restarts old mid before middle
+      → ((setup : Setup) (c : Cluster) → Stands facts setup mid c → some ≡ list_any c.up setup.nodes)
+      → Served facts (IsRestartedTo some) old mid before middle
   restarted-to some served up = record {
     serves = λ setup c r st. (let s = served.serves setup c r st in
         serves-means s (record {
@@ -171,22 +170,20 @@ module _ {D : Type 0} {tells : D → Bool} {past : D → List Disk} {faults : D 
   }
 
   pub reopens : {old mid new : Held D} {before middle later : Outcome} (some : Bool)
-      → Served tells past faults Restarts old mid before middle
-      → ((setup : Setup) (c : Cluster) → Stands tells past setup mid c → some ≡ list_any c.up setup.nodes)
-      → Served tells past faults Opens mid new middle later
-      → Served tells past faults (IsReopening some) old new before later
+      → Served facts Restarts old mid before middle
+      → ((setup : Setup) (c : Cluster) → Stands facts setup mid c → some ≡ list_any c.up setup.nodes)
+      → Served facts Opens mid new middle later → Served facts (IsReopening some) old new before later
   reopens some first up second =
       served-then {First = IsRestartedTo some} {Second = Opens} (restarted-to some first up) second
 
   pub reopens-gave_up : {old mid new : Held D} {before middle : Outcome} {memory : Memory}
-      → Served tells past faults Restarts old mid before middle → GaveUp tells past faults Opens mid new memory
-      → Refuses tells past faults all_nodes IsOpening old new before (OfMemory memory)
+      → Served facts Restarts old mid before middle → GaveUp facts Opens mid new memory
+      → Refuses facts all_nodes IsOpening old new before (OfMemory memory)
   reopens-gave_up first given = refuses-memory (gave_up-second {First = Restarts} {Second = Opens} first given)
 
   -- a node isn't restarted
   pub reopens-refuses : {old new : Held D} {before : Outcome} {fault : RestartFault}
-      → Refuses tells past faults all_nodes Restarts old new before fault
-      → Refuses tells past faults all_nodes IsOpening old new before fault
+      → Refuses facts all_nodes Restarts old new before fault → Refuses facts all_nodes IsOpening old new before fault
   reopens-refuses refuses = record {
     gives_up = refuses.gives_up;
     logs = refuses.logs;

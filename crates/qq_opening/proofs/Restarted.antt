@@ -6,7 +6,8 @@ use Rattle.std.specs.Prelude.{IsTrue, Ok, slice_get, slice_set}
 use Rattle.std.proofs.lemmas.Bool.{false≢true}
 use Rattle.qq_base.specs.declared.ids.NodeId.{NodeId}
 use Rattle.qq_base.specs.declared.ids.QueueId.{QueueId}
-use Rattle.qq_disk.specs.Disk.{Disk, now}
+use Rattle.qq_disk.specs.Disk.{now}
+use Rattle.qq_disk.specs.Facts.{DiskFacts}
 use Rattle.qq_log.specs.declared.lane.Lane.{Lane}
 use Rattle.qq_lots.specs.Left.{ops_found}
 use Rattle.qq_lots.specs.Lots.{ids_of}
@@ -44,17 +45,17 @@ some-same x y e = cc
 -- ---- a node that is up
 
 -- a node that is up stays as it is
-pub restart-up : {D : Type 0} {tells : D → Bool} {past : D → List Disk} {faults : D → ℕ} (k : ℕ) (held : Held D)
-    (outcome : Outcome) → ((setup : Setup) (c : Cluster) → Stands tells past setup held c → true ≡ c.up k)
-    → Served tells past faults (λ setup. IsRestart setup k) held held outcome outcome
+pub restart-up : {D : Type 0} {facts : DiskFacts D} (k : ℕ) (held : Held D) (outcome : Outcome)
+    → ((setup : Setup) (c : Cluster) → Stands facts setup held c → true ≡ c.up k)
+    → Served facts (λ setup. IsRestart setup k) held held outcome outcome
 restart-up k held outcome up =
     served-nothing held outcome
     (λ setup c r st. rule-if (c.up k) IsNothing (IsFound setup k) c [] (sym (up setup c st)) refl)
 
 -- ---- a node that was recovered
 
-module _ {D : Type 0} {tells : D → Bool} {past : D → List Disk} {faults : D → ℕ} (node : NodeId) (old : Held D)
-    (at : IsNodeAt node old) (finds : FindsLanes tells past faults node old) where
+module _ {D : Type 0} {facts : DiskFacts D} (node : NodeId) (old : Held D) (at : IsNodeAt node old)
+    (finds : FindsLanes facts node old) where
   abbrev k : ℕ
   k = node.0
 
@@ -70,30 +71,28 @@ module _ {D : Type 0} {tells : D → Bool} {past : D → List Disk} {faults : D 
   abbrev mid_node : Node D
   mid_node = finds.turn.new
 
-  abbrev rec : Recovers tells past faults old.log_bytes was_node mid_node own_lanes
+  abbrev rec : Recovers facts old.log_bytes was_node mid_node own_lanes
   rec = finds.turn.turns
 
   there : slice_get finds.nodes.items (k - 1) ≡ Some mid_node
   there =
       ap (λ (l : List (Node D)). slice_get l (k - 1)) finds.turn.is
-      ∙ set-here tells past faults k old.nodes.items was_node mid_node finds.turn.here
+      ∙ set-here facts k old.nodes.items was_node mid_node finds.turn.here
 
-  pub was-node : (setup : Setup) (c : Cluster) → Stands tells past setup old c → IsNodeOf tells past setup c k was_node
+  pub was-node : (setup : Setup) (c : Cluster) → Stands facts setup old c → IsNodeOf facts setup c k was_node
   was-node setup c st = node-was setup c old k was_node st at.0 finds.turn.here
 
-  module _ (setup : Setup) (c : Cluster) (st : Stands tells past setup old c) where
-    was : IsNodeOf tells past setup c k was_node
+  module _ (setup : Setup) (c : Cluster) (st : Stands facts setup old c) where
+    was : IsNodeOf facts setup c k was_node
     was = was-node setup c st
 
-    pub same-disk : SameDisk tells past faults (ids_of (lot_of setup k)) (disk_in rec.own) rec.found.wal.disk
+    pub same-disk : SameDisk facts (ids_of (lot_of setup k)) (disk_in rec.own) rec.found.wal.disk
     same-disk =
-        subst (λ (ids : List QueueId). SameDisk tells past faults ids (disk_in rec.own) rec.found.wal.disk)
-        was.queues_are
-        rec.disk
+        subst (λ (ids : List QueueId). SameDisk facts ids (disk_in rec.own) rec.found.wal.disk) was.queues_are rec.disk
 
-    pub whole-then : IsWhole tells past (ids_of (lot_of setup k)) rec.found.wal.disk
+    pub whole-then : IsWhole facts (ids_of (lot_of setup k)) rec.found.wal.disk
     whole-then =
-        same-disk.whole (subst (λ log. IsWhole tells past (ids_of (lot_of setup k)) (disk_in log))
+        same-disk.whole (subst (λ log. IsWhole facts (ids_of (lot_of setup k)) (disk_in log))
         (some-same was.own rec.own (sym was.log_is ∙ rec.was)) was.log.whole)
 
     pub found-lanes : AreLanes (ids_of (lot_of setup k)) rec.has.lanes own_lanes
@@ -102,15 +101,16 @@ module _ {D : Type 0} {tells : D → Bool} {past : D → List Disk} {faults : D 
         (subst (λ (ids : List QueueId). AreLanes ids rec.has.lanes rec.found.lanes.items) was.queues_are rec.has.each)
 
     -- what recovery settles on, of a disk that was linked
-    pub settles : IsTrue (tells (disk_in rec.own)) → IsLinked setup c k (now (past (disk_in rec.own)))
-        → Settles (lot_of setup k) (parts_at c k) rec.has.lanes (past (disk_in rec.own)) (past rec.found.wal.disk)
+    pub settles : IsTrue (facts.tells (disk_in rec.own)) → IsLinked setup c k (now (facts.past (disk_in rec.own)))
+        → Settles (lot_of setup k) (parts_at c k) rec.has.lanes
+        (facts.past (disk_in rec.own)) (facts.past rec.found.wal.disk)
     settles told linked =
         rec.has.settles told (lot_of setup k) (parts_at c k) was.queues_are linked.promised
 
-    pub read-then : IsTrue (tells (disk_in rec.own))
-        → lanes_read (ids_of (lot_of setup k)) (shown (now (past (disk_in rec.own)))) ≡ Ok rec.has.lanes
+    pub read-then : IsTrue (facts.tells (disk_in rec.own))
+        → lanes_read (ids_of (lot_of setup k)) (shown (now (facts.past (disk_in rec.own)))) ≡ Ok rec.has.lanes
     read-then told =
-        subst (λ (ids : List QueueId). lanes_read ids (shown (now (past (disk_in rec.own)))) ≡ Ok rec.has.lanes)
+        subst (λ (ids : List QueueId). lanes_read ids (shown (now (facts.past (disk_in rec.own)))) ≡ Ok rec.has.lanes)
         was.queues_are (rec.has.read told)
 
   -- ---- its members go on
@@ -139,7 +139,7 @@ module _ {D : Type 0} {tells : D → Bool} {past : D → List Disk} {faults : D 
         subst (λ (y : Node D). AllChange pair_index (TakesUpOne k (handed_of opens y.empty))
         (pairs y.queues.items own_lanes) old.queues.items new.queues.items) (own-is ∙ rec.is) goes.queues
 
-    module _ (setup : Setup) (c : Cluster) (r : IsReached setup c) (st : Stands tells past setup old c)
+    module _ (setup : Setup) (c : Cluster) (r : IsReached setup c) (st : Stands facts setup old c)
         (down : c.up k ≡ false)
         (fits : (y : QueueId × Option Lane) → In y (pairs (ids_of (lot_of setup k)) own_lanes) → (place : ℕ)
         → y.0.0 ≡ place → IsHanded handed y.1 ((c.queue place).group.seat k)) where
@@ -163,9 +163,9 @@ module _ {D : Type 0} {tells : D → Bool} {past : D → List Disk} {faults : D 
           all-long pair_index (TakesUpOne k handed) (pairs (ids_of (lot_of setup k)) own_lanes) old.queues.items
           new.queues.items take-up
 
-      stands-then : Stands tells past setup new (cluster_happens c (FindsEach k ops))
+      stands-then : Stands facts setup new (cluster_happens c (FindsEach k ops))
       stands-then =
-          let is : IsNodeOf tells past setup c k was_node = was-node setup c st in
+          let is : IsNodeOf facts setup c k was_node = was-node setup c st in
           let zip = found-lanes setup c st in
           stands-own setup c k events old new was_node up_node own-events
           (record { low = at.0; here = finds.turn.here; same = goes.is; nodes = nodes-are; many = many }) st
@@ -177,16 +177,17 @@ module _ {D : Type 0} {tells : D → Bool} {past : D → List Disk} {faults : D 
           (λ i lt calm. quiet-after setup c k old new.queues.items was_node handed rec.has.lanes own_lanes r st is
           down zip take-up fits i lt (st.quiet i lt calm))
 
-      traced : IsTrue (tells (disk_in rec.own)) → IsLinked setup c k (now (past (disk_in rec.own)))
-          → IsTracedAt setup c k events (past (disk_in rec.own)) (past rec.found.wal.disk)
+      traced : IsTrue (facts.tells (disk_in rec.own)) → IsLinked setup c k (now (facts.past (disk_in rec.own)))
+          → IsTracedAt setup c k events (facts.past (disk_in rec.own)) (facts.past rec.found.wal.disk)
       traced told linked =
           let s = settles setup c st told linked in
-          found-traced setup c k rec.has.lanes (past (disk_in rec.own)) (past rec.found.wal.disk) linked.promised
+          found-traced setup c k rec.has.lanes
+          (facts.past (disk_in rec.own)) (facts.past rec.found.wal.disk) linked.promised
           st.set_up.groups r down (was-node setup c st).members (read-then setup c st told) s.between
           s.stays s.tied
 
-      pub serves-then : (outcome : Outcome) → Serves setup c (IsRestart setup k c) (Stands tells past setup new)
-          (seen tells past faults old) (seen tells past faults new) outcome outcome
+      pub serves-then : (outcome : Outcome) → Serves setup c (IsRestart setup k c) (Stands facts setup new)
+          (seen facts old) (seen facts new) outcome outcome
       serves-then outcome =
           disk-serves setup c k events old new was_node up_node rec.own (Open rec.found.wal) own-events at.0
           finds.turn.here nodes-are rec.was (ap (λ (y : Node D). y.log) rec.is) (same-disk setup c st)
@@ -197,11 +198,10 @@ module _ {D : Type 0} {tells : D → Bool} {past : D → List Disk} {faults : D 
           stands-then (same-outcome outcome) traced
 
 -- a node that was opened before
-pub restarted : {D : Type 0} {tells : D → Bool} {past : D → List Disk} {faults : D → ℕ} (node : NodeId)
-    (old new : Held D) (outcome : Outcome) → IsNodeAt node old
-    → ((setup : Setup) (c : Cluster) → Stands tells past setup old c → c.up node.0 ≡ false)
-    → StepsUp tells past faults node false old new
-    → Served tells past faults (λ setup. IsRestart setup node.0) old new outcome outcome
+pub restarted : {D : Type 0} {facts : DiskFacts D} (node : NodeId) (old new : Held D) (outcome : Outcome)
+    → IsNodeAt node old
+    → ((setup : Setup) (c : Cluster) → Stands facts setup old c → c.up node.0 ≡ false)
+    → StepsUp facts node false old new → Served facts (λ setup. IsRestart setup node.0) old new outcome outcome
 restarted node old new outcome at down step = record {
   serves = λ setup c r st. serves-then node old at step.found false new step.goes setup c r st (down setup c st)
       (λ y here place same. known-seat setup c node.0 old st step.found.turn.old r

@@ -2,7 +2,7 @@
 use Rattle.qq_cluster.specs.Outcome.{Outcome}
 use Rattle.qq_nodes.proofs.Outcomes.{line-outcome}
 use Rattle.qq_nodes.specs.Showing.{with_line}
-use Rattle.std.proofs.Common.{◌≡◌, ◌<◌, ◌+◌, ◌-◌, ℕ, Bool, false, List, [], ◌∷◌, ◌++◌, Some, None, length, refl, sym, ap, ◌∙◌, subst, inr}
+use Rattle.std.proofs.Common.{◌≡◌, ◌<◌, ◌+◌, ◌-◌, ℕ, false, List, [], ◌∷◌, ◌++◌, Some, None, length, refl, sym, ap, ◌∙◌, subst, inr}
 use Rattle.std.specs.Fmt.{decimal}
 use Rattle.std.specs.Global.{Vec}
 use Rattle.std.specs.Prelude.{IsTrue, codes}
@@ -12,7 +12,8 @@ use Rattle.qq_base.specs.declared.ids.NodeId.{NodeId}
 use Rattle.qq_base.specs.declared.ids.QueueId.{QueueId}
 use Rattle.qq_base.specs.declared.memory.Memory.{Memory}
 use Rattle.qq_base.specs.declared.memory.Memory.TheVariants.{Spent, Want}
-use Rattle.qq_disk.specs.Disk.{Disk, now}
+use Rattle.qq_disk.specs.Disk.{now}
+use Rattle.qq_disk.specs.Facts.{DiskFacts}
 use Rattle.qq_disk.specs.declared.name.FileName.{FileName}
 use Rattle.qq_lots.specs.Lots.{ids_of}
 use Rattle.qq_raft_model.specs.Group.{Seat}
@@ -62,18 +63,17 @@ pub fails-restart : (setup : Setup) (k : ℕ) (c : Cluster) → c.up k ≡ false
 fails-restart setup k c down = rule-else (c.up k) IsNothing (IsFound setup k) c (Fails k ∷ []) down (inr refl)
 
 -- the first node of the list isn't restarted
-abbrev pub restarts-none : {D : Type 0} (tells : D → Bool) (past : D → List Disk) (faults : D → ℕ) (setup : Setup)
-    (c : Cluster) (k : ℕ) (old : Held D) (before : Outcome) → Stands tells past setup old c → c.up k ≡ false
-    → RestartsTo tells past faults setup c (this_node k setup) old before k
-restarts-none tells past faults setup c k old before st down = record {
+abbrev pub restarts-none : {D : Type 0} (facts : DiskFacts D) (setup : Setup) (c : Cluster) (k : ℕ) (old : Held D)
+    (before : Outcome) → Stands facts setup old c → c.up k ≡ false
+    → RestartsTo facts setup c (this_node k setup) old before k
+restarts-none facts setup c k old before st down = record {
   first = [];
   later = [];
   are = refl;
   mid = old;
   said = before;
-  serves = serves-none setup c (ForEach [] (IsRestart setup) c) (Stands tells past setup old)
-      (seen tells past faults old)
-      before refl st;
+  serves = serves-none setup c (ForEach [] (IsRestart setup) c) (Stands facts setup old) (seen facts old) before refl
+      st;
   down = down;
 }
 
@@ -90,63 +90,62 @@ stops-parts c k = λ i. λ (place : ℕ). one (c.queue place) i
 same-log : {A : Type 0} (x y : A) → Some x ≡ Some y → x ≡ y
 same-log x y e = cc
 
-module _ {D : Type 0} {tells : D → Bool} {past : D → List Disk} {faults : D → ℕ} (node : NodeId) (old left : Held D)
-    (fault : RecoverFault) (at : IsNodeAt node old) (none : FindsNone tells past faults node old left fault)
+module _ {D : Type 0} {facts : DiskFacts D} (node : NodeId) (old left : Held D) (fault : RecoverFault)
+    (at : IsNodeAt node old) (none : FindsNone facts node old left fault)
   where
     abbrev k : ℕ
     k = node.0
 
-    abbrev turn : NodeTurns (λ (x y : Node D). FailsToRecover tells past faults x y fault) (node.0 - 1)
+    abbrev turn : NodeTurns (λ (x y : Node D). FailsToRecover facts x y fault) (node.0 - 1)
         old.nodes.items left.nodes.items
     turn = none.turn
 
-    abbrev fails : FailsToRecover tells past faults turn.old turn.new fault
+    abbrev fails : FailsToRecover facts turn.old turn.new fault
     fails = turn.turns
 
-    module _ (setup : Setup) (c : Cluster) (r : IsReached setup c) (st : Stands tells past setup old c)
+    module _ (setup : Setup) (c : Cluster) (r : IsReached setup c) (st : Stands facts setup old c)
         (down : c.up k ≡ false) where
-      was : IsNodeOf tells past setup c k turn.old
+      was : IsNodeOf facts setup c k turn.old
       was = node-was setup c old k turn.old st at.0 turn.here
 
-      pub same-disk : SameDisk tells past faults (ids_of (lot_of setup k)) (disk_in fails.own) fails.left
+      pub same-disk : SameDisk facts (ids_of (lot_of setup k)) (disk_in fails.own) fails.left
       same-disk =
-          subst (λ (ids : List QueueId). SameDisk tells past faults ids (disk_in fails.own) fails.left) was.queues_are
-          fails.disk
+          subst (λ (ids : List QueueId). SameDisk facts ids (disk_in fails.own) fails.left) was.queues_are fails.disk
 
-      whole-then : IsWhole tells past (ids_of (lot_of setup k)) fails.left
+      whole-then : IsWhole facts (ids_of (lot_of setup k)) fails.left
       whole-then =
-          same-disk.whole (subst (λ log. IsWhole tells past (ids_of (lot_of setup k)) (disk_in log))
+          same-disk.whole (subst (λ log. IsWhole facts (ids_of (lot_of setup k)) (disk_in log))
           (same-log was.own fails.own (sym was.log_is ∙ fails.was)) was.log.whole)
 
       -- a disk that was linked keeps what was promised
-      pub always : IsTrue (tells (disk_in fails.own)) → IsLinked setup c k (now (past (disk_in fails.own)))
-          → IsNoRefusal fault × AlwaysKeeps (lot_of setup k) (parts_at c k) (past (disk_in fails.own)) (past fails.left)
+      pub always : IsTrue (facts.tells (disk_in fails.own)) → IsLinked setup c k (now (facts.past (disk_in fails.own)))
+          → IsNoRefusal fault × AlwaysKeeps (lot_of setup k) (parts_at c k)
+          (facts.past (disk_in fails.own)) (facts.past fails.left)
       always told linked = fails.keeps told (lot_of setup k) (parts_at c k) was.queues_are linked.promised
 
-      gives-up : GivesUp setup c (seen tells past faults old) (seen tells past faults left)
+      gives-up : GivesUp setup c (seen facts old) (seen facts left)
       gives-up =
           disk-gives_up setup c k [] old left turn.old turn.new fails.own (Closed fails.left) tt at.0 turn.here turn.is
           fails.was (ap (λ (y : Node D). y.log) fails.is) same-disk
-          (λ told linked. broken-none setup c k (past (disk_in fails.own)) (past fails.left) linked.promised
+          (λ told linked. broken-none setup c k (facts.past (disk_in fails.own)) (facts.past fails.left) linked.promised
           (always told linked).1.0)
 
-      seen-is : seen tells past faults old k
-          ≡ seen_of tells past faults (disk_in fails.own)
+      seen-is : seen facts old k ≡ seen_of facts (disk_in fails.own)
       seen-is =
           seen-before setup c k [] old left turn.old turn.new fails.own (Closed fails.left) tt at.0 turn.here turn.is
           fails.was (ap (λ (y : Node D). y.log) fails.is) same-disk
 
       -- what recovery reads of the disk
-      reads-as : IsTrue (seen tells past faults old k).tells → ReadsAs fault (lanes_at tells past faults setup old k)
+      reads-as : IsTrue (seen facts old k).tells → ReadsAs fault (lanes_at facts setup old k)
       reads-as =
           subst (λ (s : Seen). IsTrue s.tells
           → ReadsAs fault (lanes_read (ids_of (lot_of setup k)) (shown (now s.past))))
           (sym seen-is)
-          (subst (λ (ids : List QueueId). IsTrue (tells (disk_in fails.own))
-          → ReadsAs fault (lanes_read ids (shown (now (past (disk_in fails.own)))))) was.queues_are fails.refused)
+          (subst (λ (ids : List QueueId). IsTrue (facts.tells (disk_in fails.own))
+          → ReadsAs fault (lanes_read ids (shown (now (facts.past (disk_in fails.own)))))) was.queues_are fails.refused)
 
-      no-refusal : IsTrue (seen tells past faults old k).tells
-          → IsLinked setup c k (now (seen tells past faults old k).past) → IsNoRefusal fault
+      no-refusal : IsTrue (seen facts old k).tells
+          → IsLinked setup c k (now (seen facts old k).past) → IsNoRefusal fault
       no-refusal =
           subst (λ (s : Seen). IsTrue s.tells → IsLinked setup c k (now s.past) → IsNoRefusal fault) (sym seen-is)
           (λ told linked. (always told linked).0)
@@ -156,9 +155,9 @@ module _ {D : Type 0} {tells : D → Bool} {past : D → List Disk} {faults : D 
       abbrev after_it : Cluster
       after_it = cluster_happens c (Fails k)
 
-      pub failed-node : IsNodeOf tells past setup after_it k turn.new
+      pub failed-node : IsNodeOf facts setup after_it k turn.new
       failed-node =
-          subst (IsNodeOf tells past setup after_it k) (sym fails.is) (record {
+          subst (IsNodeOf facts setup after_it k) (sym fails.is) (record {
             id_is = was.id_is;
             few = was.few;
             up_is = was.up_is ∙ down ∙ sym (put-same k false c.up);
@@ -204,7 +203,7 @@ module _ {D : Type 0} {tells : D → Bool} {past : D → List Disk} {faults : D 
           none.same ∙ ap (λ (q : Vec ClusterQueue). record old { queues = q; nodes = left.nodes })
           (sym (ap (λ (h : Held D). h.queues) none.same))
 
-      failed-stands : Stands tells past setup left after_it
+      failed-stands : Stands facts setup left after_it
       failed-stands =
           stands-own setup c k (Fails k ∷ []) old left turn.old turn.new (own-fail k, tt)
           (record { low = at.0; here = turn.here; same = same-else; nodes = turn.is; many = ap length queues-same }) st
@@ -213,48 +212,48 @@ module _ {D : Type 0} {tells : D → Bool} {past : D → List Disk} {faults : D 
 
       pub failed-serves : fault ≡ recover_faults.Disk → (before after : Outcome)
           → after ≡ with_line (codes "node " ++ decimal k ++ codes " stopped\n") before
-          → Serves setup c (IsRestart setup k c) (Stands tells past setup left) (seen tells past faults old)
-          (seen tells past faults left) before after
+          → Serves setup c (IsRestart setup k c) (Stands facts setup left) (seen facts old)
+          (seen facts left) before after
       failed-serves is before after says =
           disk-serves setup c k (Fails k ∷ []) old left turn.old turn.new fails.own (Closed fails.left) (own-fail k, tt)
           at.0 turn.here turn.is fails.was (ap (λ (y : Node D). y.log) fails.is) same-disk (IsRestart setup k c) before
           after
-          (λ failed. subst (IsRecoverCaused (faults (disk_in fails.own)) (faults fails.left)) is fails.cause)
-          (fails-restart setup k c down) failed-stands
+          (λ failed. subst (IsRecoverCaused (facts.faults (disk_in fails.own)) (facts.faults fails.left)) is
+          fails.cause) (fails-restart setup k c down) failed-stands
           (says ∙ line-outcome (codes "node " ++ decimal k ++ codes " stopped\n") before)
-          (λ told linked. failed-traced setup c k (past (disk_in fails.own)) (past fails.left) linked.promised
-          (always told linked).1.0)
+          (λ told linked. failed-traced setup c k
+          (facts.past (disk_in fails.own)) (facts.past fails.left) linked.promised (always told linked).1.0)
 
       -- ---- a number of the files is at its end
 
       ends-at : (number : ℕ) → fault ≡ recover_faults.Memory (Spent number)
-          → EndsAt tells past faults setup (IsRestart setup k) old c number
+          → EndsAt facts setup (IsRestart setup k) old c number
       ends-at number is =
           ends-now setup (IsRestart setup k) old c number st (Fails k ∷ [], fails-restart setup k c down)
           (OnDisk (k - 1) fails.own (record { node = turn.old; here = turn.here; is = fails.was })
-          (λ told. subst (IsSpentOn (now (past (disk_in fails.own)))) is (fails.spent told)))
-          (inr (subst (IsRecoverCaused (faults (disk_in fails.own)) (faults fails.left)) is fails.cause))
+          (λ told. subst (IsSpentOn (now (facts.past (disk_in fails.own)))) is (fails.spent told)))
+          (inr (subst (IsRecoverCaused (facts.faults (disk_in fails.own)) (facts.faults fails.left)) is fails.cause))
 
     -- ---- as a restart leaves it
 
-    module _ (before : Outcome) (down : (setup : Setup) (c : Cluster) → Stands tells past setup old c → c.up k ≡ false)
+    module _ (before : Outcome) (down : (setup : Setup) (c : Cluster) → Stands facts setup old c → c.up k ≡ false)
       where
         abbrev Refused : RestartFault → Type 0
-        Refused = Refuses tells past faults (this_node k) (λ setup. IsRestart setup k) old left before
+        Refused = Refuses facts (this_node k) (λ setup. IsRestart setup k) old left before
 
         -- the disk has failed, and that is said
         pub not-recovered : fault ≡ recover_faults.Disk → (after : Outcome)
             → after ≡ with_line (codes "node " ++ decimal k ++ codes " stopped\n") before
-            → Served tells past faults (λ setup. IsRestart setup k) old left before after
+            → Served facts (λ setup. IsRestart setup k) old left before after
         not-recovered is after says = record {
           serves = λ setup c r st. failed-serves setup c r st (down setup c st) is before after says;
         }
 
-        gives-up-all : (setup : Setup) (c : Cluster) → IsReached setup c → Stands tells past setup old c
-            → GivesUp setup c (seen tells past faults old) (seen tells past faults left)
+        gives-up-all : (setup : Setup) (c : Cluster) → IsReached setup c → Stands facts setup old c
+            → GivesUp setup c (seen facts old) (seen facts left)
         gives-up-all setup c r st = gives-up setup c r st (down setup c st)
 
-        still-there : (setup : Setup) (c : Cluster) → IsReached setup c → Stands tells past setup old c
+        still-there : (setup : Setup) (c : Cluster) → IsReached setup c → Stands facts setup old c
             → HaveLogs setup left.nodes.items
         still-there setup c r st =
             logs-with setup old.nodes.items left.nodes.items (k - 1) turn.new (Closed fails.left) turn.is
@@ -288,8 +287,8 @@ module _ {D : Type 0} {tells : D → Bool} {past : D → List Disk} {faults : D 
           gives_up = gives-up-all;
           logs = still-there;
           refused = λ setup c r st. (
-            restarts-none tells past faults setup c k old before st (down setup c st),
-            λ told. subst (λ (f : RecoverFault). ReadsAs f (lanes_at tells past faults setup old k)) is
+            restarts-none facts setup c k old before st (down setup c st),
+            λ told. subst (λ (f : RecoverFault). ReadsAs f (lanes_at facts setup old k)) is
                 (reads-as setup c r st (down setup c st) told),
           );
           spent = λ number same. absurd cc;
@@ -304,8 +303,8 @@ module _ {D : Type 0} {tells : D → Bool} {past : D → List Disk} {faults : D 
           gives_up = gives-up-all;
           logs = still-there;
           refused = λ setup c r st. (
-            restarts-none tells past faults setup c k old before st (down setup c st),
-            λ told. subst (λ (f : RecoverFault). ReadsAs f (lanes_at tells past faults setup old k)) is
+            restarts-none facts setup c k old before st (down setup c st),
+            λ told. subst (λ (f : RecoverFault). ReadsAs f (lanes_at facts setup old k)) is
                 (reads-as setup c r st (down setup c st) told),
           );
           spent = λ number same. absurd cc;
@@ -314,26 +313,21 @@ module _ {D : Type 0} {tells : D → Bool} {past : D → List Disk} {faults : D 
         }
 
 -- why a node isn't restarted whose log wasn't recovered
-pub not-restarted : {D : Type 0} {tells : D → Bool} {past : D → List Disk} {faults : D → ℕ} (node : NodeId)
-    (old left : Held D) (at : IsNodeAt node old) (cause : RecoverFault)
-    → FindsNone tells past faults node old left cause
-    → (before : Outcome) (fault : RestartFault)
-    → ((setup : Setup) (c : Cluster) → Stands tells past setup old c → c.up node.0 ≡ false)
-    → IsFaultOf node cause fault
-    → Refuses tells past faults (this_node node.0) (λ setup. IsRestart setup node.0) old left before fault
-not-restarted {tells = tells} {past = past} {faults = faults} node old left at recover_faults.Disk none before
+pub not-restarted : {D : Type 0} {facts : DiskFacts D} (node : NodeId) (old left : Held D) (at : IsNodeAt node old)
+    (cause : RecoverFault)
+    → FindsNone facts node old left cause → (before : Outcome) (fault : RestartFault)
+    → ((setup : Setup) (c : Cluster) → Stands facts setup old c → c.up node.0 ≡ false) → IsFaultOf node cause fault
+    → Refuses facts (this_node node.0) (λ setup. IsRestart setup node.0) old left before fault
+not-restarted {facts = facts} node old left at recover_faults.Disk none before
     fault down is =
-    subst (Refuses tells past faults (this_node node.0) (λ setup. IsRestart setup node.0) old left before) (sym is)
+    subst (Refuses facts (this_node node.0) (λ setup. IsRestart setup node.0) old left before) (sym is)
     (no-memory node old left recover_faults.Disk at none before down)
-not-restarted {tells = tells} {past = past} {faults = faults} node old left at
-    (recover_faults.Damaged file place) none before fault down is =
-    subst (Refuses tells past faults (this_node node.0) (λ setup. IsRestart setup node.0) old left before) (sym is)
+not-restarted {facts = facts} node old left at (recover_faults.Damaged file place) none before fault down is =
+    subst (Refuses facts (this_node node.0) (λ setup. IsRestart setup node.0) old left before) (sym is)
     (damaged node old left (recover_faults.Damaged file place) at none before down file place refl)
-not-restarted {tells = tells} {past = past} {faults = faults} node old left at
-    (recover_faults.Version file byte) none before fault down is =
-    subst (Refuses tells past faults (this_node node.0) (λ setup. IsRestart setup node.0) old left before) (sym is)
+not-restarted {facts = facts} node old left at (recover_faults.Version file byte) none before fault down is =
+    subst (Refuses facts (this_node node.0) (λ setup. IsRestart setup node.0) old left before) (sym is)
     (other-version node old left (recover_faults.Version file byte) at none before down file byte refl)
-not-restarted {tells = tells} {past = past} {faults = faults} node old left at
-    (recover_faults.Memory memory) none before fault down is =
-    subst (Refuses tells past faults (this_node node.0) (λ setup. IsRestart setup node.0) old left before) (sym is)
+not-restarted {facts = facts} node old left at (recover_faults.Memory memory) none before fault down is =
+    subst (Refuses facts (this_node node.0) (λ setup. IsRestart setup node.0) old left before) (sym is)
     (spent-memory node old left (recover_faults.Memory memory) at none before down memory refl)

@@ -6,7 +6,8 @@ use Rattle.std.specs.List.{range_with_len}
 use Rattle.qq_base.specs.Causes.{Rose}
 use Rattle.qq_base.specs.declared.ids.QueueId.{QueueId}
 use Rattle.qq_base.specs.declared.memory.Memory.TheVariants.{Want}
-use Rattle.qq_disk.specs.Disk.{Disk, now}
+use Rattle.qq_disk.specs.Disk.{now}
+use Rattle.qq_disk.specs.Facts.{DiskFacts}
 use Rattle.qq_entry.specs.declared.command.Entry.{Entry}
 use Rattle.qq_group.specs.Group.{server_at}
 use Rattle.qq_log.specs.Stable.{Stable, known_entries, new_state, no_snapshot, stable}
@@ -108,8 +109,8 @@ pub record IsOpenedNode {D : Type 0} (rows : List QueueRow) (k : ℕ) (lanes : O
   pub has_log : (log : NodeLog D) × (own.log ≡ Some log)
 
 -- the first so many nodes were opened, and the others are as they were
-pub record AreOpened {D : Type 0} (tells : D → Bool) (past : D → List Disk) (faults : D → ℕ) (rows : List QueueRow)
-    (at : ℕ) (old held : Held D) : Type 0 where
+pub record AreOpened {D : Type 0} (facts : DiskFacts D) (rows : List QueueRow) (at : ℕ)
+    (old held : Held D) : Type 0 where
   pub lanes : ℕ → Option Lanes
   pub same : held ≡ record old { queues = held.queues; nodes = held.nodes }
   pub node_count : length held.nodes.items ≡ length old.nodes.items
@@ -120,23 +121,23 @@ pub record AreOpened {D : Type 0} (tells : D → Bool) (past : D → List Disk) 
   pub queues : (i : ℕ) (row : QueueRow) (d : ClusterQueue) → slice_get rows i ≡ Some row
       → slice_get held.queues.items i ≡ Some d → IsOpenedQueue row lanes at d
   pub disks : (k : ℕ) → 0 < k → k ≤ at
-      → WasRead (ids_on rows k) (seen tells past faults old k) (seen tells past faults held k) (lanes k)
+      → WasRead (ids_on rows k) (seen facts old k) (seen facts held k) (lanes k)
 
 -- ---- the cluster
 
 -- over logs that support an audit, and are what was read
-pub record OpenedServes {D : Type 0} (tells : D → Bool) (past : D → List Disk) (faults : D → ℕ) (setup : Setup) (at : ℕ)
-    (lanes : ℕ → Option Lanes) (some : Bool) (old held : Held D) (before later : Outcome) : Type 0 where
+pub record OpenedServes {D : Type 0} (facts : DiskFacts D) (setup : Setup) (at : ℕ) (lanes : ℕ → Option Lanes)
+    (some : Bool) (old held : Held D) (before later : Outcome) : Type 0 where
   pub serves : Serves setup (new_cluster setup) (RestartedTo at some setup (new_cluster setup))
-      (Stands tells past setup held) (seen tells past faults old) (seen tells past faults held) before later
+      (Stands facts setup held) (seen facts old) (seen facts held) before later
   pub came : HaveRestarted (range_with_len 1 at) lanes serves.did.events
 
-pub record OpenedTo {D : Type 0} (tells : D → Bool) (past : D → List Disk) (faults : D → ℕ) (rows : List QueueRow)
-    (at : ℕ) (some : Bool) (old held : Held D) (before later : Outcome) : Type 0 where
-  pub opened : AreOpened tells past faults rows at old held
+pub record OpenedTo {D : Type 0} (facts : DiskFacts D) (rows : List QueueRow) (at : ℕ) (some : Bool) (old held : Held D)
+    (before later : Outcome) : Type 0 where
+  pub opened : AreOpened facts rows at old held
   pub serves : (logs : Logs) (setup : Setup) → IsSetupWith setup rows (length old.nodes.items) logs → HasGroups setup
       → AreLogsOf rows logs → AreReadLogs rows (range_with_len 1 at) opened.lanes logs
-      → OpenedServes tells past faults setup at opened.lanes some old held before later
+      → OpenedServes facts setup at opened.lanes some old held before later
 
 -- a node is marked as empty where it is down
 abbrev pub IsMarked : {D : Type 0} → ℕ → (up : Bool) → (old held : Held D) → Type 0

@@ -7,7 +7,8 @@ use Rattle.qq_base.specs.Causes.{Rose}
 use Rattle.qq_base.specs.declared.ids.NodeId.{NodeId}
 use Rattle.qq_base.specs.declared.ids.QueueId.{QueueId}
 use Rattle.qq_base.specs.declared.memory.Memory.TheVariants.{Want, Spent}
-use Rattle.qq_disk.specs.Disk.{Disk, now}
+use Rattle.qq_disk.specs.Disk.{now}
+use Rattle.qq_disk.specs.Facts.{DiskFacts}
 use Rattle.qq_log.specs.Stable.{Stable, new_state, stable}
 use Rattle.qq_log.specs.declared.op.Op.{Op}
 use Rattle.qq_lots.specs.Left.{state_in}
@@ -78,19 +79,18 @@ state_read None id = new_state
 state_read (Some lanes) id = told_of (state_in lanes id)
 
 -- what recovery reads of a node's disk as it was at first, where that tells its contents, or that the disk has failed
-abbrev pub IsReadAs : {D : Type 0} → (D → Bool) → (D → List Disk) → (D → ℕ) → List QueueRow → (old new : Held D) → ℕ
+abbrev pub IsReadAs : {D : Type 0} → DiskFacts D → List QueueRow → (old new : Held D) → ℕ
     → Option Lanes → Type 0
-IsReadAs tells past faults rows old new k None =
-    Rose (seen tells past faults old k).faults (seen tells past faults new k).faults
-IsReadAs tells past faults rows old new k (Some lanes) =
-    IsTrue (seen tells past faults old k).tells
-    → lanes_read (ids_on rows k) (shown (now (seen tells past faults old k).past)) ≡ Ok lanes
+IsReadAs facts rows old new k None =
+    Rose (seen facts old k).faults (seen facts new k).faults
+IsReadAs facts rows old new k (Some lanes) =
+    IsTrue (seen facts old k).tells → lanes_read (ids_on rows k) (shown (now (seen facts old k).past)) ≡ Ok lanes
 
 -- and so of each of these nodes
-pub record HasRead {D : Type 0} (tells : D → Bool) (past : D → List Disk) (faults : D → ℕ) (rows : List QueueRow)
-    (first : List ℕ) (old new : Held D) : Type 0 where
+pub record HasRead {D : Type 0} (facts : DiskFacts D) (rows : List QueueRow) (first : List ℕ)
+    (old new : Held D) : Type 0 where
   pub lanes : ℕ → Option Lanes
-  pub each : (k : ℕ) → In k first → IsReadAs tells past faults rows old new k (lanes k)
+  pub each : (k : ℕ) → In k first → IsReadAs facts rows old new k (lanes k)
 
 -- logs are what was read of each of these nodes: the ops come to the state
 abbrev pub AreReadLogs : List QueueRow → (first : List ℕ) → (ℕ → Option Lanes) → Logs → Type 0
@@ -99,9 +99,9 @@ AreReadLogs rows first lanes logs =
     → stable (logs (at + 1) k) ≡ Some (state_read (lanes k) row.args.queue)
 
 -- these nodes' disks hold these logs
-pub record HoldLogs {D : Type 0} (tells : D → Bool) (past : D → List Disk) (faults : D → ℕ) (rows : List QueueRow)
-    (first : List ℕ) (old new : Held D) : Type 0 where
-  pub read : HasRead tells past faults rows first old new
+pub record HoldLogs {D : Type 0} (facts : DiskFacts D) (rows : List QueueRow) (first : List ℕ)
+    (old new : Held D) : Type 0 where
+  pub read : HasRead facts rows first old new
   pub logs : Logs
   pub own : AreLogsOf rows logs
   pub are : AreReadLogs rows first read.lanes logs
@@ -116,19 +116,19 @@ all_of held = range_with_len 1 (length held.nodes.items)
 -- ---- an opening
 
 -- The cluster begins with logs that support an audit: it was opened, and the nodes stand for it.
-pub record OpensTo {D : Type 0} (tells : D → Bool) (past : D → List Disk) (faults : D → ℕ) (setup : Setup)
-    (lanes : ℕ → Option Lanes) (some : Bool) (old new : Held D) (before later : Outcome) : Type 0 where
+pub record OpensTo {D : Type 0} (facts : DiskFacts D) (setup : Setup) (lanes : ℕ → Option Lanes) (some : Bool)
+    (old new : Held D) (before later : Outcome) : Type 0 where
   pub groups : HasGroups setup
   pub serves : Serves setup (new_cluster setup) (IsOpenedTo some setup (new_cluster setup))
-      (Stands tells past setup new) (seen tells past faults old) (seen tells past faults new) before later
+      (Stands facts setup new) (seen facts old) (seen facts new) before later
   pub came : HaveRestarted (all_of old) lanes serves.did.events
 
 -- Nodes over disks that hold some logs were opened: of each setup with these logs.
-pub record OpensOver {D : Type 0} (tells : D → Bool) (past : D → List Disk) (faults : D → ℕ) (rows : List QueueRow)
-    (some : Bool) (old new : Held D) (before later : Outcome) : Type 0 where
-  pub hold : HoldLogs tells past faults rows (all_of old) old new
+pub record OpensOver {D : Type 0} (facts : DiskFacts D) (rows : List QueueRow) (some : Bool) (old new : Held D)
+    (before later : Outcome) : Type 0 where
+  pub hold : HoldLogs facts rows (all_of old) old new
   pub opens : (setup : Setup) → IsSetupWith setup rows (length old.nodes.items) hold.logs
-      → OpensTo tells past faults setup hold.read.lanes some old new before later
+      → OpensTo facts setup hold.read.lanes some old new before later
 
 -- ---- why nodes aren't opened
 
@@ -141,21 +141,21 @@ pub record StopsBefore (setup : Setup) (first : List ℕ) (node : ℕ) (lanes : 
 
 -- A node's files break the rules of a log, or are of another version, as recovery reads them of a disk that tells its
 -- contents.
-pub record IsRefusedOver {D : Type 0} (tells : D → Bool) (past : D → List Disk) (faults : D → ℕ) (rows : List QueueRow)
-    (old new : Held D) (node : ℕ) (fault : RecoverFault) : Type 0 where
+pub record IsRefusedOver {D : Type 0} (facts : DiskFacts D) (rows : List QueueRow) (old new : Held D) (node : ℕ)
+    (fault : RecoverFault) : Type 0 where
   pub first : List ℕ
   pub later : List ℕ
   pub are : all_of old ≡ first ++ node ∷ later
-  pub hold : HoldLogs tells past faults rows first old new
-  pub read : IsTrue (seen tells past faults old node).tells
-      → lanes_read (ids_on rows node) (shown (now (seen tells past faults old node).past)) ≡ Err fault
+  pub hold : HoldLogs facts rows first old new
+  pub read : IsTrue (seen facts old node).tells
+      → lanes_read (ids_on rows node) (shown (now (seen facts old node).past)) ≡ Err fault
   pub stops : (setup : Setup) → IsSetupWith setup rows (length old.nodes.items) hold.logs
       → StopsBefore setup first node hold.read.lanes
 
 -- A queue's logs support no audit: whatever logs of it are as the nodes' disks were read so far, the queue may not
 -- begin with them. One of them, that of a member on this node, has so many ops.
-pub record IsLostOver {D : Type 0} (tells : D → Bool) (past : D → List Disk) (faults : D → ℕ) (rows : List QueueRow)
-    (old new : Held D) (node : NodeId) (queue : QueueId) (found : ℕ) : Type 0 where
+pub record IsLostOver {D : Type 0} (facts : DiskFacts D) (rows : List QueueRow) (old new : Held D) (node : NodeId)
+    (queue : QueueId) (found : ℕ) : Type 0 where
   pub low : 0 < queue.0
   pub row : QueueRow
   pub here : slice_get rows (queue.0 - 1) ≡ Some row
@@ -165,7 +165,7 @@ pub record IsLostOver {D : Type 0} (tells : D → Bool) (past : D → List Disk)
   pub later : List ℕ
   pub are : all_of old ≡ first ++ later
   pub among : In node.0 first
-  pub read : HasRead tells past faults rows first old new
+  pub read : HasRead facts rows first old new
   pub own : Lanes
   pub own_is : read.lanes node.0 ≡ Some own
   pub found_is : found ≡ (state_in own queue).op
@@ -176,57 +176,55 @@ pub record IsLostOver {D : Type 0} (tells : D → Bool) (past : D → List Disk)
 
 -- After the disks were read and the logs were found to support an audit, a number would have to rise, and stands at
 -- its end.
-pub record SpentAfter {D : Type 0} (tells : D → Bool) (past : D → List Disk) (faults : D → ℕ) (rows : List QueueRow)
-    (old new : Held D) (number : ℕ) : Type 0 where
-  pub hold : HoldLogs tells past faults rows (all_of old) old new
+pub record SpentAfter {D : Type 0} (facts : DiskFacts D) (rows : List QueueRow) (old new : Held D)
+    (number : ℕ) : Type 0 where
+  pub hold : HoldLogs facts rows (all_of old) old new
   pub ends : (setup : Setup) → IsSetupWith setup rows (length old.nodes.items) hold.logs
-      → HasGroups setup × (e : EndsAt tells past faults setup (IsOpening setup) old (new_cluster setup) number)
+      → HasGroups setup × (e : EndsAt facts setup (IsOpening setup) old (new_cluster setup) number)
       × HaveRestarted (all_of old) hold.read.lanes e.serves.did.events
 
 -- or it does so on a disk as it was given, where nothing has happened, whatever logs the cluster begins with
-abbrev pub SpentOver : {D : Type 0} → (D → Bool) → (D → List Disk) → (D → ℕ) → List QueueRow → (old new : Held D)
+abbrev pub SpentOver : {D : Type 0} → DiskFacts D → List QueueRow → (old new : Held D)
     → (number : ℕ) → Type 0
-SpentOver tells past faults rows old new number =
+SpentOver facts rows old new number =
     ((logs : Logs) (setup : Setup) → IsSetupWith setup rows (length old.nodes.items) logs → HasGroups setup
-    → (e : EndsAt tells past faults setup (IsOpening setup) old (new_cluster setup) number)
-    × (e.serves.did.events ≡ []))
-    ⊎ SpentAfter tells past faults rows old new number
+    → (e : EndsAt facts setup (IsOpening setup) old (new_cluster setup) number) × (e.serves.did.events ≡ []))
+    ⊎ SpentAfter facts rows old new number
 
-abbrev pub IsOpenCaused : {D : Type 0} → (D → Bool) → (D → List Disk) → (D → ℕ) → List QueueRow → (old new : Held D)
+abbrev pub IsOpenCaused : {D : Type 0} → DiskFacts D → List QueueRow → (old new : Held D)
     → RestartFault → Type 0
-IsOpenCaused tells past faults rows old new (Damaged node file place) =
-    IsRefusedOver tells past faults rows old new node.0 (recover_faults.Damaged file place)
-IsOpenCaused tells past faults rows old new (Version node file byte) =
-    IsRefusedOver tells past faults rows old new node.0 (recover_faults.Version file byte)
-IsOpenCaused tells past faults rows old new (Lost node queue noticed found) =
-    (noticed ≡ 0) × IsLostOver tells past faults rows old new node queue found
-IsOpenCaused tells past faults rows old new (Memory Want) = Unit {0}
-IsOpenCaused tells past faults rows old new (Memory (Spent number)) =
-    SpentOver tells past faults rows old new number
+IsOpenCaused facts rows old new (Damaged node file place) =
+    IsRefusedOver facts rows old new node.0 (recover_faults.Damaged file place)
+IsOpenCaused facts rows old new (Version node file byte) =
+    IsRefusedOver facts rows old new node.0 (recover_faults.Version file byte)
+IsOpenCaused facts rows old new (Lost node queue noticed found) =
+    (noticed ≡ 0) × IsLostOver facts rows old new node queue found
+IsOpenCaused facts rows old new (Memory Want) = Unit {0}
+IsOpenCaused facts rows old new (Memory (Spent number)) =
+    SpentOver facts rows old new number
 
 -- At each moment of the call each disk keeps what was promised so far: whatever logs the cluster begins with, as long
 -- as nothing but recoveries has happened; and then over the logs that the disks hold.
-abbrev pub GivesUpOver : {D : Type 0} → (D → Bool) → (D → List Disk) → (D → ℕ) → List QueueRow → (old new : Held D)
+abbrev pub GivesUpOver : {D : Type 0} → DiskFacts D → List QueueRow → (old new : Held D)
     → Type 0
-GivesUpOver tells past faults rows old new =
+GivesUpOver facts rows old new =
     ((logs : Logs) (setup : Setup) → IsSetupWith setup rows (length old.nodes.items) logs
-    → GivesUp setup (new_cluster setup) (seen tells past faults old) (seen tells past faults new))
-    ⊎ ((hold : HoldLogs tells past faults rows (all_of old) old new)
+    → GivesUp setup (new_cluster setup) (seen facts old) (seen facts new))
+    ⊎ ((hold : HoldLogs facts rows (all_of old) old new)
     × ((setup : Setup) → IsSetupWith setup rows (length old.nodes.items) hold.logs
-    → GivesUp setup (new_cluster setup) (seen tells past faults old) (seen tells past faults new)))
+    → GivesUp setup (new_cluster setup) (seen facts old) (seen facts new)))
 
 -- What an opening leaves that is given up: each disk is still in its node's log. It is so for want of memory or numbers
 -- alone, where logs support an audit, each node's disk tells its contents and is linked to them, and no disk fails but
 -- those of nodes without a log.
-pub record MayNotOpen {D : Type 0} (tells : D → Bool) (past : D → List Disk) (faults : D → ℕ) (rows : List QueueRow)
-    (old new : Held D) (fault : RestartFault) : Type 0 where
-  pub cause : IsOpenCaused tells past faults rows old new fault
-  pub gives_up : GivesUpOver tells past faults rows old new
+pub record MayNotOpen {D : Type 0} (facts : DiskFacts D) (rows : List QueueRow) (old new : Held D)
+    (fault : RestartFault) : Type 0 where
+  pub cause : IsOpenCaused facts rows old new fault
+  pub gives_up : GivesUpOver facts rows old new
   pub count : length new.nodes.items ≡ length old.nodes.items
   pub logs : EachHasLog new.nodes.items
   pub never : (logs : Logs) (setup : Setup) → IsSetupWith setup rows (length old.nodes.items) logs
-      → HasGroups setup → AreLinked tells past faults setup old (new_cluster setup) setup.nodes
-      → ((k : ℕ) → In k setup.nodes
-      → Rose (seen tells past faults old k).faults (seen tells past faults new k).faults
+      → HasGroups setup → AreLinked facts setup old (new_cluster setup) setup.nodes → ((k : ℕ) → In k setup.nodes
+      → Rose (seen facts old k).faults (seen facts new k).faults
       → (place : ℕ) → In place setup.places → logs place k ≡ [])
       → IsOfMemory fault

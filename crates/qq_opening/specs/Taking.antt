@@ -8,7 +8,8 @@ use Rattle.std.specs.Fmt.{decimal}
 use Rattle.qq_base.specs.declared.ids.NodeId.{NodeId}
 use Rattle.qq_base.specs.declared.ids.QueueId.{QueueId}
 use Rattle.qq_base.specs.declared.memory.Memory.TheVariants.{Want}
-use Rattle.qq_disk.specs.Disk.{Disk, now}
+use Rattle.qq_disk.specs.Disk.{now}
+use Rattle.qq_disk.specs.Facts.{DiskFacts}
 use Rattle.qq_log.specs.Lane.{empty}
 use Rattle.qq_log.specs.Log.{LogState, log_of}
 use Rattle.qq_log.specs.Stable.{Stable, new_state, no_snapshot, stable}
@@ -241,35 +242,34 @@ IsTakeEachCaused k handed all olds (node_faults.Memory memory) = memory ≡ Want
 -- ---- the log
 
 -- a node's log may be recovered
-abbrev pub MayRecover : {D : Type 0} → (D → Bool) → (D → List Disk) → Node D → Type 0
-MayRecover {D} tells past node =
-    (own : NodeLog D) × (node.log ≡ Some own) × IsWhole tells past node.queues.items (disk_in own)
+abbrev pub MayRecover : {D : Type 0} → DiskFacts D → Node D → Type 0
+MayRecover {D} facts node =
+    (own : NodeLog D) × (node.log ≡ Some own) × IsWhole facts node.queues.items (disk_in own)
 
 -- it was recovered, and this was found
-pub record Recovers {D : Type 0} (tells : D → Bool) (past : D → List Disk) (faults : D → ℕ) (log_bytes : ℕ)
-    (old new : Node D)
+pub record Recovers {D : Type 0} (facts : DiskFacts D) (log_bytes : ℕ) (old new : Node D)
     (lanes : List (Option Lane)) : Type 0 where
   pub own : NodeLog D
   pub was : old.log ≡ Some own
   pub found : Found D
   pub lanes_are : lanes ≡ found.lanes.items
-  pub has : HasFound tells past old.queues.items log_bytes (disk_in own) found
-  pub disk : SameDisk tells past faults old.queues.items (disk_in own) found.wal.disk
+  pub has : HasFound facts old.queues.items log_bytes (disk_in own) found
+  pub disk : SameDisk facts old.queues.items (disk_in own) found.wal.disk
   pub is : new ≡ record old { log = Some (Open found.wal) }
 
 -- it wasn't, and its disk is there again
-pub record FailsToRecover {D : Type 0} (tells : D → Bool) (past : D → List Disk) (faults : D → ℕ) (old new : Node D)
-    (fault : RecoverFault) : Type 0 where
+pub record FailsToRecover {D : Type 0} (facts : DiskFacts D) (old new : Node D) (fault : RecoverFault) : Type 0 where
   pub own : NodeLog D
   pub was : old.log ≡ Some own
   pub left : D
-  pub disk : SameDisk tells past faults old.queues.items (disk_in own) left
+  pub disk : SameDisk facts old.queues.items (disk_in own) left
   pub is : new ≡ record old { log = Some (Closed left) }
-  pub keeps : IsTrue (tells (disk_in own)) → FailsKeeping old.queues.items (past (disk_in own)) (past left) fault
-  pub refused : IsTrue (tells (disk_in own))
-      → Fails fault (lanes_read old.queues.items (shown (now (past (disk_in own)))))
-  pub spent : IsTrue (tells (disk_in own)) → IsSpentOn (now (past (disk_in own))) fault
-  pub cause : IsRecoverCaused (faults (disk_in own)) (faults left) fault
+  pub keeps : IsTrue (facts.tells (disk_in own)) → FailsKeeping old.queues.items
+      (facts.past (disk_in own)) (facts.past left) fault
+  pub refused : IsTrue (facts.tells (disk_in own))
+      → Fails fault (lanes_read old.queues.items (shown (now (facts.past (disk_in own)))))
+  pub spent : IsTrue (facts.tells (disk_in own)) → IsSpentOn (now (facts.past (disk_in own))) fault
+  pub cause : IsRecoverCaused (facts.faults (disk_in own)) (facts.faults left) fault
 
 -- ---- the nodes
 
@@ -289,9 +289,9 @@ pub record MayGoOn {D : Type 0} (node : NodeId) (held : Held D) : Type 0 where
       → MayTakeEach node.0 held.queues.items own.queues.items
 
 -- and the node's log may be recovered
-pub record MayStep {D : Type 0} (tells : D → Bool) (past : D → List Disk) (node : NodeId) (held : Held D) : Type 0 where
+pub record MayStep {D : Type 0} (facts : DiskFacts D) (node : NodeId) (held : Held D) : Type 0 where
   pub go_on : MayGoOn node held
-  pub recover : (own : Node D) → slice_get held.nodes.items (node.0 - 1) ≡ Some own → MayRecover tells past own
+  pub recover : (own : Node D) → slice_get held.nodes.items (node.0 - 1) ≡ Some own → MayRecover facts own
 
 -- the members on a node go on with what was found, and it is up
 pub record GoesOn {D : Type 0} (node : NodeId) (opens : Bool) (lanes : List (Option Lane)) (old new : Held D) : Type 0
@@ -318,31 +318,28 @@ pub record StaysDown {D : Type 0} (node : NodeId) (opens : Bool) (lanes : List (
 -- ---- a step
 
 -- a node's log was recovered, and this was found; the queues are as they were
-pub record FindsLanes {D : Type 0} (tells : D → Bool) (past : D → List Disk) (faults : D → ℕ) (node : NodeId)
-    (old : Held D) : Type 0 where
+pub record FindsLanes {D : Type 0} (facts : DiskFacts D) (node : NodeId) (old : Held D) : Type 0 where
   pub nodes : Vec (Node D)
   pub lanes : List (Option Lane)
-  pub turn : NodeTurns (λ (x y : Node D). Recovers tells past faults old.log_bytes x y lanes) (node.0 - 1)
+  pub turn : NodeTurns (λ (x y : Node D). Recovers facts old.log_bytes x y lanes) (node.0 - 1)
       old.nodes.items nodes.items
 
 -- and its members go on with it
-pub record StepsUp {D : Type 0} (tells : D → Bool) (past : D → List Disk) (faults : D → ℕ) (node : NodeId)
-    (opens : Bool) (old new : Held D) : Type 0 where
-  pub found : FindsLanes tells past faults node old
+pub record StepsUp {D : Type 0} (facts : DiskFacts D) (node : NodeId) (opens : Bool) (old new : Held D) : Type 0 where
+  pub found : FindsLanes facts node old
   pub goes : GoesOn node opens found.lanes (record old { nodes = found.nodes }) new
 
 -- or one of them doesn't
-pub record StepsBack {D : Type 0} (tells : D → Bool) (past : D → List Disk) (faults : D → ℕ) (node : NodeId)
-    (opens : Bool) (old new : Held D) (fault : NodeFault) : Type 0 where
-  pub found : FindsLanes tells past faults node old
+pub record StepsBack {D : Type 0} (facts : DiskFacts D) (node : NodeId) (opens : Bool) (old new : Held D)
+    (fault : NodeFault) : Type 0 where
+  pub found : FindsLanes facts node old
   pub nodes_are : new.nodes ≡ found.nodes
   pub stays : StaysDown node opens found.lanes (record old { nodes = found.nodes }) fault
 
 -- its log was not recovered
-pub record FindsNone {D : Type 0} (tells : D → Bool) (past : D → List Disk) (faults : D → ℕ) (node : NodeId)
-    (old new : Held D) (cause : RecoverFault) : Type 0 where
-  pub turn : NodeTurns (λ (x y : Node D). FailsToRecover tells past faults x y cause) (node.0 - 1) old.nodes.items
-      new.nodes.items
+pub record FindsNone {D : Type 0} (facts : DiskFacts D) (node : NodeId) (old new : Held D)
+    (cause : RecoverFault) : Type 0 where
+  pub turn : NodeTurns (λ (x y : Node D). FailsToRecover facts x y cause) (node.0 - 1) old.nodes.items new.nodes.items
   pub same : new ≡ record old { nodes = new.nodes }
 
 -- what that tells; where the disk has failed, there was no memory to say so
@@ -353,15 +350,14 @@ IsFaultOf node (recover_faults.Version file byte) fault = fault ≡ node_faults.
 IsFaultOf node (recover_faults.Memory memory) fault = fault ≡ node_faults.Memory memory
 
 -- A node is up with what was found, or its disk has failed and that is said.
-abbrev pub Steps : {D : Type 0} → (D → Bool) → (D → List Disk) → (D → ℕ) → NodeId → (opens : Bool) → (old new : Held D)
+abbrev pub Steps : {D : Type 0} → DiskFacts D → NodeId → (opens : Bool) → (old new : Held D)
     → (before later : Outcome) → Type 0
-Steps tells past faults node opens old new before later =
-    (StepsUp tells past faults node opens old new × (later ≡ before))
-    ⊎ (FindsNone tells past faults node old new recover_faults.Disk
+Steps facts node opens old new before later =
+    (StepsUp facts node opens old new × (later ≡ before)) ⊎ (FindsNone facts node old new recover_faults.Disk
     × (later ≡ with_line (codes "node " ++ decimal node.0 ++ codes " stopped\n") before))
 
-abbrev pub MayNotStep : {D : Type 0} → (D → Bool) → (D → List Disk) → (D → ℕ) → NodeId → (opens : Bool)
+abbrev pub MayNotStep : {D : Type 0} → DiskFacts D → NodeId → (opens : Bool)
     → (old new : Held D) → NodeFault → Type 0
-MayNotStep tells past faults node opens old new fault =
-    StepsBack tells past faults node opens old new fault
-    ⊎ ((cause : RecoverFault) × FindsNone tells past faults node old new cause × IsFaultOf node cause fault)
+MayNotStep facts node opens old new fault =
+    StepsBack facts node opens old new fault
+    ⊎ ((cause : RecoverFault) × FindsNone facts node old new cause × IsFaultOf node cause fault)

@@ -43,12 +43,12 @@ fn open_each<D: NodeDisk, T: Taker>(
     alloc: Global,
     told: &mut Told<T>,
 ) -> Result<bool, RestartFault>
-    requires { (rows : List Row) × AreNew D.tells D.past rows nodes.old }
-    ensures ok { IfOk result (λ some. (rows : List Row) → AreNew D.tells D.past rows nodes.old →
-        OpenedTo D.tells D.past D.faults rows (length nodes.old.nodes.items) some nodes.old nodes.new
+    requires { (rows : List Row) × AreNew D.facts rows nodes.old }
+    ensures ok { IfOk result (λ some. (rows : List Row) → AreNew D.facts rows nodes.old →
+        OpenedTo D.facts rows (length nodes.old.nodes.items) some nodes.old nodes.new
         told.old told.new) }
-    ensures err { IfErr result (λ fault. (rows : List Row) → AreNew D.tells D.past rows nodes.old →
-        MayNotOpen D.tells D.past D.faults rows nodes.old nodes.new fault) }
+    ensures err { IfErr result (λ fault. (rows : List Row) → AreNew D.facts rows nodes.old →
+        MayNotOpen D.facts rows nodes.old nodes.new fault) }
 {
     let mut some = false;
     let count = nodes.nodes.len();
@@ -76,11 +76,11 @@ pub fn open<D: NodeDisk, T: Taker>(
     alloc: Global,
     told: &mut Told<T>,
 ) -> Result<bool, RestartFault>
-    requires { (rows : List Row) × AreNew D.tells D.past rows nodes.old }
-    ensures ok { IfOk result (λ some. (rows : List Row) → AreNew D.tells D.past rows nodes.old →
-        OpensOver D.tells D.past D.faults rows some nodes.old nodes.new told.old told.new) }
-    ensures err { IfErr result (λ fault. (rows : List Row) → AreNew D.tells D.past rows nodes.old →
-        MayNotOpen D.tells D.past D.faults rows nodes.old nodes.new fault) }
+    requires { (rows : List Row) × AreNew D.facts rows nodes.old }
+    ensures ok { IfOk result (λ some. (rows : List Row) → AreNew D.facts rows nodes.old →
+        OpensOver D.facts rows some nodes.old nodes.new told.old told.new) }
+    ensures err { IfErr result (λ fault. (rows : List Row) → AreNew D.facts rows nodes.old →
+        MayNotOpen D.facts rows nodes.old nodes.new fault) }
 {
     a_queue_may_begin_with_new_logs();
     let some = match open_each(nodes, alloc, told) {

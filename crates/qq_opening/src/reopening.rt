@@ -15,8 +15,8 @@ use std::alloc::Global;
 
 // Whether some node is up.
 fn has_up<D: NodeDisk>(nodes: &Nodes<D>) -> bool
-    requires { CanServe D.tells D.past nodes.now }
-    ensures { (setup : Setup) (c : Cluster) → Stands D.tells D.past setup nodes.now c →
+    requires { CanServe D.facts nodes.now }
+    ensures { (setup : Setup) (c : Cluster) → Stands D.facts setup nodes.now c →
         result ≡ list_any c.up setup.nodes }
 {
     let count = nodes.nodes.len();
@@ -37,11 +37,10 @@ pub fn reopen<D: NodeDisk, T: Taker>(
     alloc: Global,
     told: &mut Told<T>,
 ) -> Result<bool, RestartFault>
-    requires { CanServe D.tells D.past nodes.old }
-    ensures ok { IfOk result (λ some. Served D.tells D.past D.faults (IsReopening some)
-        nodes.old nodes.new told.old told.new) }
-    ensures err { IfErr result (Refuses D.tells D.past D.faults all_nodes
-        IsOpening nodes.old nodes.new told.old) }
+    requires { CanServe D.facts nodes.old }
+    ensures ok { IfOk result (λ some. Served D.facts (IsReopening some) nodes.old nodes.new
+        told.old told.new) }
+    ensures err { IfErr result (Refuses D.facts all_nodes IsOpening nodes.old nodes.new told.old) }
 {
     if let Err(fault) = restart_each(nodes, alloc, told) {
         return Err(fault);

@@ -63,12 +63,11 @@ pub fn restart<D: NodeDisk, T: Taker>(
     node: NodeId,
     told: &mut Told<T>,
 ) -> Result<(), RestartFault>
-    requires serve { CanServe D.tells D.past nodes.old }
+    requires serve { CanServe D.facts nodes.old }
     requires node { IsNodeAt node nodes.old }
-    ensures ok { OnOk result (Served D.tells D.past D.faults
-        (λ (setup : Setup). IsRestart setup node.0)
+    ensures ok { OnOk result (Served D.facts (λ (setup : Setup). IsRestart setup node.0)
         nodes.old nodes.new told.old told.new) }
-    ensures err { IfErr result (Refuses D.tells D.past D.faults (this_node node.0)
+    ensures err { IfErr result (Refuses D.facts (this_node node.0)
         (λ (setup : Setup). IsRestart setup node.0) nodes.old nodes.new told.old) }
 {
     let up = nodes.is_up(node);
@@ -87,11 +86,11 @@ pub fn restart_each<D: NodeDisk, T: Taker>(
     alloc: Global,
     told: &mut Told<T>,
 ) -> Result<(), RestartFault>
-    requires { CanServe D.tells D.past nodes.old }
-    ensures ok { OnOk result (Served D.tells D.past D.faults
+    requires { CanServe D.facts nodes.old }
+    ensures ok { OnOk result (Served D.facts
         (λ (setup : Setup). ForEach setup.nodes (IsRestart setup))
         nodes.old nodes.new told.old told.new) }
-    ensures err { IfErr result (Refuses D.tells D.past D.faults all_nodes
+    ensures err { IfErr result (Refuses D.facts all_nodes
         (λ (setup : Setup). ForEach setup.nodes (IsRestart setup)) nodes.old nodes.new told.old) }
 {
     let count = nodes.nodes.len();

@@ -24,11 +24,11 @@ fn recover_own<D: NodeDisk>(
     alloc: Global,
     log_bytes: u64,
 ) -> Result<Vec<Option<Lane>>, RecoverFault>
-    requires own { MayRecover D.tells D.past node.old }
+    requires own { MayRecover D.facts node.old }
     requires apart { AreDistinct node.old.queues.items }
     ensures ok { IfOk result (λ lanes.
-        Recovers D.tells D.past D.faults log_bytes node.old node.new lanes.items) }
-    ensures err { IfErr result (FailsToRecover D.tells D.past D.faults node.old node.new) }
+        Recovers D.facts log_bytes node.old node.new lanes.items) }
+    ensures err { IfErr result (FailsToRecover D.facts node.old node.new) }
 {
     let Some(log) = node.log.take() else {
         unreachable!()
@@ -55,13 +55,13 @@ fn recover_at<D: NodeDisk>(
 ) -> Result<Vec<Option<Lane>>, RecoverFault>
     requires place { at < length nodes.old }
     requires own { (node : NodeOf D) → slice_get nodes.old at ≡ Some node →
-        MayRecover D.tells D.past node }
+        MayRecover D.facts node }
     requires apart { (node : NodeOf D) → slice_get nodes.old at ≡ Some node →
         AreDistinct node.queues.items }
     ensures ok { IfOk result (λ lanes. NodeTurns
-        (λ old new. Recovers D.tells D.past D.faults log_bytes old new lanes.items) at nodes.old nodes.new) }
+        (λ old new. Recovers D.facts log_bytes old new lanes.items) at nodes.old nodes.new) }
     ensures err { IfErr result (λ fault. NodeTurns
-        (λ old new. FailsToRecover D.tells D.past D.faults old new fault) at nodes.old nodes.new) }
+        (λ old new. FailsToRecover D.facts old new fault) at nodes.old nodes.new) }
 {
     recover_own(&mut nodes[at], alloc, log_bytes)
 }
@@ -74,15 +74,14 @@ fn recover_in<D: NodeDisk>(
 ) -> Result<Vec<Option<Lane>>, RecoverFault>
     requires place { at < length nodes.old.items }
     requires own { (node : NodeOf D) → slice_get nodes.old.items at ≡ Some node →
-        MayRecover D.tells D.past node }
+        MayRecover D.facts node }
     requires apart { (node : NodeOf D) → slice_get nodes.old.items at ≡ Some node →
         AreDistinct node.queues.items }
     ensures ok { IfOk result (λ lanes. NodeTurns
-        (λ old new. Recovers D.tells D.past D.faults log_bytes old new lanes.items)
-        at nodes.old.items nodes.new.items) }
+        (λ old new. Recovers D.facts log_bytes old new lanes.items) at nodes.old.items
+        nodes.new.items) }
     ensures err { IfErr result (λ fault. NodeTurns
-        (λ old new. FailsToRecover D.tells D.past D.faults old new fault)
-        at nodes.old.items nodes.new.items) }
+        (λ old new. FailsToRecover D.facts old new fault) at nodes.old.items nodes.new.items) }
 {
     recover_at(nodes, alloc, at, log_bytes)
 }
@@ -121,10 +120,9 @@ pub(crate) fn recover_node<D: NodeDisk, T: Taker>(
     opens: bool,
     told: &mut Told<T>,
 ) -> Result<(), RestartFault>
-    requires { MayStep D.tells D.past node nodes.old }
-    ensures ok { OnOk result (Steps D.tells D.past D.faults node opens nodes.old nodes.new
-        told.old told.new) }
-    ensures err { IfErr result (MayNotStep D.tells D.past D.faults node opens nodes.old nodes.new) }
+    requires { MayStep D.facts node nodes.old }
+    ensures ok { OnOk result (Steps D.facts node opens nodes.old nodes.new told.old told.new) }
+    ensures err { IfErr result (MayNotStep D.facts node opens nodes.old nodes.new) }
 {
     match recover_in(
         &mut nodes.nodes,

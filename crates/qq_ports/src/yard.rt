@@ -34,9 +34,9 @@ pub trait Yard {
         ensures given { IfOk result (λ disk.
             is_given (option_map (λ text. text.now) root.entry) node.0 disk ≡ true) }
         ensures opened { IfOk result (λ disk.
-            IsTrue (Self.Disk.tells disk) → IsOpened (Self.Disk.past disk)) }
+            IsTrue (Self.Disk.facts.tells disk) → IsOpened (Self.Disk.facts.past disk)) }
         ensures empty { IfNone root.entry (IfOk result (λ disk.
-            IsTrue (Self.Disk.tells disk) → IsNew (Self.Disk.past disk))) }
+            IsTrue (Self.Disk.facts.tells disk) → IsNew (Self.Disk.facts.past disk))) }
         ensures cause { HasCause IsYardCaused (faults self.old) (faults self.new) result };
 
     /// The disk after a crash. Where the call is refused, the disk is given up.
@@ -50,8 +50,9 @@ pub trait Yard {
         disk: Self::Disk,
         image: &Image,
     ) -> Result<Self::Disk, YardFault>
-        ensures left { IsTrue (Self.Disk.tells disk) → IfOk result (λ after.
-            IsAfterCrash image.now (Self.Disk.past disk) (Self.Disk.past after)) }
-        ensures told { IfOk result (λ after. Self.Disk.tells after ≡ Self.Disk.tells disk) }
+        ensures left { IsTrue (Self.Disk.facts.tells disk) → IfOk result (λ after.
+            IsAfterCrash image.now (Self.Disk.facts.past disk) (Self.Disk.facts.past after)) }
+        ensures told { IfOk result (λ after. Self.Disk.facts.tells after
+            ≡ Self.Disk.facts.tells disk) }
         ensures cause { HasCause IsYardCaused (faults self.old) (faults self.new) result };
 }

@@ -6,6 +6,7 @@ use Rattle.qq_disk.specs.declared.name.FileKind.{FileKind}
 use Rattle.qq_disk.specs.declared.name.FileKind.TheVariants.{Log, Segment, Snapshot}
 use Rattle.qq_disk.specs.declared.name.FileName.{FileName}
 use Rattle.qq_disk.specs.Disk.{Disk, FileState, IsListed, IsListing, contents, file_content, keep, mark_removed, now, remove, sync, whole}
+use Rattle.qq_disk.specs.Facts.{DiskFacts}
 use Rattle.qq_disk.specs.Image.{log_of}
 use Rattle.qq_disk.specs.Moments.{Adds, IsRemoving}
 use Rattle.qq_disk.specs.Name.{rank, same_name}
@@ -144,22 +145,21 @@ each-then names chain old mid new first second =
 
 -- ---- one call, and then another
 
-module _ {D : Type 0} (tells : D → Bool) (past : D → List Disk) (faults : D → ℕ) (names : List FileName)
-    (chain : List End) where
-  pub clears-none : (w : Wal D) → IsSound tells past w → Clears tells past faults names chain w w
+module _ {D : Type 0} (facts : DiskFacts D) (names : List FileName) (chain : List End) where
+  pub clears-none : (w : Wal D) → IsSound facts w → Clears facts names chain w w
   clears-none w sound = record {
     sound = sound;
     same = refl;
     told = refl;
     later = omega arith;
     outside = λ told out. out;
-    stays = λ told noticed given keeps. adds-none _ (past w.disk);
+    stays = λ told noticed given keeps. adds-none _ (facts.past w.disk);
     may = λ told may. may;
-    each = λ told. adds-none (LacksOf names chain (now (past w.disk))) (past w.disk);
+    each = λ told. adds-none (LacksOf names chain (now (facts.past w.disk))) (facts.past w.disk);
   }
 
-  pub clears-then : (old mid new : Wal D) → Clears tells past faults names chain old mid
-      → Clears tells past faults names chain mid new → Clears tells past faults names chain old new
+  pub clears-then : (old mid new : Wal D) → Clears facts names chain old mid
+      → Clears facts names chain mid new → Clears facts names chain old new
   clears-then old mid new a b =
       let queues : mid.queues.items ≡ old.queues.items = ap (λ (w : Wal D). w.queues.items) a.same in
       let header : mid.header ≡ old.header = ap (λ (w : Wal D). w.header) a.same in
@@ -169,21 +169,21 @@ module _ {D : Type 0} (tells : D → Bool) (past : D → List Disk) (faults : D 
         told = b.told ∙ a.told;
         later = omega (arith, a.later, b.later);
         outside = λ told out.
-            subst (λ (l : List QueueId). AreOutside l old.header chain (now (past new.disk))) queues
-            (subst (λ (h : Header). AreOutside mid.queues.items h chain (now (past new.disk))) header
+            subst (λ (l : List QueueId). AreOutside l old.header chain (now (facts.past new.disk))) queues
+            (subst (λ (h : Header). AreOutside mid.queues.items h chain (now (facts.past new.disk))) header
             (b.outside (after a.told told)
-            (subst (λ (h : Header). AreOutside mid.queues.items h chain (now (past mid.disk))) (sym header)
-            (subst (λ (l : List QueueId). AreOutside l old.header chain (now (past mid.disk))) (sym queues)
+            (subst (λ (h : Header). AreOutside mid.queues.items h chain (now (facts.past mid.disk))) (sym header)
+            (subst (λ (l : List QueueId). AreOutside l old.header chain (now (facts.past mid.disk))) (sym queues)
             (a.outside told out)))));
         stays = λ told.
-            stays-then old.queues.items (past old.disk) (past mid.disk) (past new.disk) (a.stays told)
-            (subst (λ (l : List QueueId). Stays l (past mid.disk) (past new.disk)) queues
+            stays-then old.queues.items (facts.past old.disk) (facts.past mid.disk) (facts.past new.disk) (a.stays told)
+            (subst (λ (l : List QueueId). Stays l (facts.past mid.disk) (facts.past new.disk)) queues
             (b.stays (after a.told told)));
         may = λ told may.
-            subst (λ (l : List QueueId). StillMayRecover l (past mid.disk) (past new.disk)) queues
+            subst (λ (l : List QueueId). StillMayRecover l (facts.past mid.disk) (facts.past new.disk)) queues
             (b.may (after a.told told)) (a.may told may);
         each = λ told.
-            each-then names chain (past old.disk) (past mid.disk) (past new.disk) (a.each told)
+            each-then names chain (facts.past old.disk) (facts.past mid.disk) (facts.past new.disk) (a.each told)
             (b.each (after a.told told));
       }
     where
@@ -192,15 +192,15 @@ module _ {D : Type 0} (tells : D → Bool) (past : D → List Disk) (faults : D 
 
   -- a file that isn't read is removed
   pub clears-one : (old new : Wal D) (file : FileName) → Contains names file → is_unread chain file ≡ true
-      → IsSound tells past new → new ≡ record old { disk = new.disk; stopped = new.stopped }
-      → tells new.disk ≡ tells old.disk → faults old.disk ≤ faults new.disk
-      → (IsTrue (tells old.disk) → (m : ℕ) → IsOutside old.queues.items old.header (now (past old.disk)) m
-      → IsOutside old.queues.items old.header (now (past new.disk)) m)
-      → (IsTrue (tells old.disk) → Stays old.queues.items (past old.disk) (past new.disk))
-      → (IsTrue (tells old.disk) → StillMayRecover old.queues.items (past old.disk) (past new.disk))
-      → (IsTrue (tells old.disk) → Adds (IsRemoving (now (past old.disk)) (log_of file.number)) (past old.disk)
-      (past new.disk))
-      → Clears tells past faults names chain old new
+      → IsSound facts new → new ≡ record old { disk = new.disk; stopped = new.stopped }
+      → facts.tells new.disk ≡ facts.tells old.disk → facts.faults old.disk ≤ facts.faults new.disk
+      → (IsTrue (facts.tells old.disk) → (m : ℕ) → IsOutside old.queues.items old.header (now (facts.past old.disk)) m
+      → IsOutside old.queues.items old.header (now (facts.past new.disk)) m)
+      → (IsTrue (facts.tells old.disk) → Stays old.queues.items (facts.past old.disk) (facts.past new.disk))
+      → (IsTrue (facts.tells old.disk) → StillMayRecover old.queues.items (facts.past old.disk) (facts.past new.disk))
+      → (IsTrue (facts.tells old.disk) → Adds (IsRemoving (now (facts.past old.disk)) (log_of file.number))
+      (facts.past old.disk) (facts.past new.disk))
+      → Clears facts names chain old new
   clears-one old new file has unread sound same told later outside stays may removes =
       let log = unread-log chain file unread in
       record {
@@ -212,10 +212,10 @@ module _ {D : Type 0} (tells : D → Bool) (past : D → List Disk) (faults : D 
         stays = stays;
         may = may;
         each = λ t.
-            adds-weaker (IsRemoving (now (past old.disk)) (log_of file.number))
-            (LacksOf names chain (now (past old.disk))) (past old.disk) (past new.disk)
-            (λ e is. removing names chain file (now (past old.disk)) e has unread
-            (subst (λ (f : FileName). IsRemoving (now (past old.disk)) f e) (sym log.is) is)) (removes t);
+            adds-weaker (IsRemoving (now (facts.past old.disk)) (log_of file.number))
+            (LacksOf names chain (now (facts.past old.disk))) (facts.past old.disk) (facts.past new.disk)
+            (λ e is. removing names chain file (now (facts.past old.disk)) e has unread
+            (subst (λ (f : FileName). IsRemoving (now (facts.past old.disk)) f e) (sym log.is) is)) (removes t);
       }
 
 -- ---- what is gone

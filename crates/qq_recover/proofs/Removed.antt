@@ -6,6 +6,7 @@ use Rattle.qq_disk.specs.Crash.{IsImage, MayLeave, Remains}
 use Rattle.qq_disk.specs.declared.name.FileName.{FileName}
 use Rattle.qq_disk.specs.declared.name.FileKind.TheVariants.{Log}
 use Rattle.qq_disk.specs.Disk.{Disk, FileState, IsListed, IsListing, contents, file_content, keep, mark_removed, now, sync, whole}
+use Rattle.qq_disk.specs.Facts.{DiskFacts}
 use Rattle.qq_disk.specs.Image.{log_of}
 use Rattle.qq_disk.specs.Moments.{Adds}
 use Rattle.qq_disk.specs.Name.{same_name}
@@ -80,25 +81,26 @@ own-kept queues h d written clean =
     ∙ sym (ap (λ (o : Option FileState). option_map keep o) is)
 
 -- so once a file is begun, and others go behind it
-pub cleared-behind : {D : Type 0} (tells : D → Bool) (past : D → List Disk) (faults : D → ℕ)
-    (names named : List FileName) (chain ended : List End) (old : D) (w new : Wal D) (queues : Vec QueueId) (h : Header)
+pub cleared-behind : {D : Type 0} (facts : DiskFacts D) (names named : List FileName) (chain ended : List End) (old : D)
+    (w new : Wal D) (queues : Vec QueueId) (h : Header)
     (carries : List Carry) (listed : List FileName) (ranges : AllRanges) (log_bytes : ℕ) → named ≡ names
-    → ended ≡ chain → IsSound tells past w → IsBegun queues h carries listed ranges log_bytes w
-    → Clears tells past faults named ended w new → tells w.disk ≡ tells old
-    → StaysBeside (log_of h.file) (past old) (past w.disk) → IsTrue (tells old)
-    → BeginsAndClears names chain (log_of h.file) (past old) (past new.disk)
-cleared-behind tells past faults names named chain ended old w new queues h carries listed ranges log_bytes is are sound
+    → ended ≡ chain → IsSound facts w → IsBegun queues h carries listed ranges log_bytes w
+    → Clears facts named ended w new → facts.tells w.disk ≡ facts.tells old
+    → StaysBeside (log_of h.file) (facts.past old) (facts.past w.disk) → IsTrue (facts.tells old)
+    → BeginsAndClears names chain (log_of h.file) (facts.past old) (facts.past new.disk)
+cleared-behind facts names named chain ended old w new queues h carries listed ranges log_bytes is are sound
     begun clears same beside told =
-    let there : IsTrue (tells w.disk) = subst (λ (t : Bool). IsTrue t) (sym same) told in
-    let d = now (past w.disk) in
+    let there : IsTrue (facts.tells w.disk) = subst (λ (t : Bool). IsTrue t) (sym same) told in
+    let d = now (facts.past w.disk) in
     record {
-      begun = past w.disk;
+      begun = facts.past w.disk;
       beside = beside;
       synced = subst (λ (h : Header). d (log_of h.file) ≡ option_map keep (d (log_of h.file))) begun.header_is
           (own-kept w.queues.items w.header d (sound.on_disk there begun.going).log
           (sound.synced there begun.going begun.clean));
-      each = subst (λ (l : List FileName). Adds (LacksOf l chain d) (past w.disk) (past new.disk)) is
-          (subst (λ (l : List End). Adds (LacksOf named l d) (past w.disk) (past new.disk)) are (clears.each there));
+      each = subst (λ (l : List FileName). Adds (LacksOf l chain d) (facts.past w.disk) (facts.past new.disk)) is
+          (subst (λ (l : List End). Adds (LacksOf named l d) (facts.past w.disk) (facts.past new.disk)) are
+          (clears.each there));
     }
 
 -- the cause of a later part is one of the whole

@@ -4,6 +4,7 @@ use Rattle.std.specs.List.{list_any}
 use Rattle.qq_base.specs.declared.ids.QueueId.{QueueId}
 use Rattle.qq_disk.specs.declared.name.FileName.{FileName}
 use Rattle.qq_disk.specs.Disk.{Disk, keep, mark_removed, now, remove}
+use Rattle.qq_disk.specs.Facts.{DiskFacts}
 use Rattle.qq_disk.specs.Image.{log_of}
 use Rattle.qq_disk.specs.Moments.{Adds}
 use Rattle.qq_disk.specs.Name.{rank}
@@ -46,17 +47,18 @@ LacksOf names chain d e = (file : FileName)
     ⊎ (Contains names file × (is_unread chain file ≡ true) × (e file ≡ option_map mark_removed (d file)))
 
 -- such files were removed, and else the log is as it was
-pub record Clears {D : Type 0} (tells : D → Bool) (past : D → List Disk) (faults : D → ℕ) (names : List FileName)
-    (chain : List End) (old new : Wal D) : Type 0 where
-  pub sound : IsSound tells past new
+pub record Clears {D : Type 0} (facts : DiskFacts D) (names : List FileName) (chain : List End)
+    (old new : Wal D) : Type 0 where
+  pub sound : IsSound facts new
   pub same : new ≡ record old { disk = new.disk; stopped = new.stopped }
-  pub told : tells new.disk ≡ tells old.disk
-  pub later : faults old.disk ≤ faults new.disk
-  pub outside : IsTrue (tells old.disk) → AreOutside old.queues.items old.header chain (now (past old.disk))
-      → AreOutside old.queues.items old.header chain (now (past new.disk))
-  pub stays : IsTrue (tells old.disk) → Stays old.queues.items (past old.disk) (past new.disk)
-  pub may : IsTrue (tells old.disk) → StillMayRecover old.queues.items (past old.disk) (past new.disk)
-  pub each : IsTrue (tells old.disk) → Adds (LacksOf names chain (now (past old.disk))) (past old.disk) (past new.disk)
+  pub told : facts.tells new.disk ≡ facts.tells old.disk
+  pub later : facts.faults old.disk ≤ facts.faults new.disk
+  pub outside : IsTrue (facts.tells old.disk) → AreOutside old.queues.items old.header chain (now (facts.past old.disk))
+      → AreOutside old.queues.items old.header chain (now (facts.past new.disk))
+  pub stays : IsTrue (facts.tells old.disk) → Stays old.queues.items (facts.past old.disk) (facts.past new.disk)
+  pub may : IsTrue (facts.tells old.disk) → StillMayRecover old.queues.items (facts.past old.disk) (facts.past new.disk)
+  pub each : IsTrue (facts.tells old.disk) → Adds (LacksOf names chain (now (facts.past old.disk)))
+      (facts.past old.disk) (facts.past new.disk)
 
 -- a file was begun, then it was synced, and then such files were removed
 pub record BeginsAndClears (names : List FileName) (chain : List End) (file : FileName) (old new : List Disk) : Type 0

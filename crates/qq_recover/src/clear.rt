@@ -43,19 +43,20 @@ fn remove_one<D: NodeDisk>(
     chain: &[FileEnd],
     file: FileName,
 ) -> Result<(), WalFault>
-    requires sound { IsSound D.tells D.past wal.old }
+    requires sound { IsSound D.facts wal.old }
     requires going { wal.old.stopped ≡ false }
     requires older { file.kind ≡ OfLog → file.number < wal.old.header.file }
-    requires outside { IsTrue (D.tells wal.old.disk) → AreOutside wal.old.queues.items
-        wal.old.header chain.now (now (D.past wal.old.disk)) }
+    requires outside { IsTrue (D.facts.tells wal.old.disk) → AreOutside wal.old.queues.items
+        wal.old.header chain.now (now (D.facts.past wal.old.disk)) }
     ensures clears { (names : List FileName) → Contains names file →
-        Clears D.tells D.past D.faults names chain.now wal.old wal.new }
-    ensures ok { IsTrue (D.tells wal.old.disk) → OnOk result (now (D.past wal.new.disk)
-        ≡ remove_one chain.now (now (D.past wal.old.disk)) file) }
-    ensures holds { IsTrue (D.tells wal.old.disk) → OnOk result (StillHolds
-        wal.old.queues.items (now (D.past wal.old.disk)) (now (D.past wal.new.disk))) }
+        Clears D.facts names chain.now wal.old wal.new }
+    ensures ok { IsTrue (D.facts.tells wal.old.disk) → OnOk result (now (D.facts.past wal.new.disk)
+        ≡ remove_one chain.now (now (D.facts.past wal.old.disk)) file) }
+    ensures holds { IsTrue (D.facts.tells wal.old.disk) → OnOk result (StillHolds
+        wal.old.queues.items (now (D.facts.past wal.old.disk)) (now (D.facts.past wal.new.disk))) }
     ensures going { OnOk result (wal.new.stopped ≡ false) }
-    ensures cause { IfErr result (IsCaused false (D.faults wal.old.disk) (D.faults wal.new.disk)) }
+    ensures cause { IfErr result (IsCaused false
+        (D.facts.faults wal.old.disk) (D.facts.faults wal.new.disk)) }
 {
     if !is_unread(chain, file) {
         return Ok(());
@@ -70,18 +71,19 @@ pub(crate) fn remove_unread<D: NodeDisk>(
     chain: &[FileEnd],
     names: &[FileName],
 ) -> Result<(), WalFault>
-    requires sound { IsSound D.tells D.past wal.old }
+    requires sound { IsSound D.facts wal.old }
     requires going { wal.old.stopped ≡ false }
     requires older { greatest_number OfLog names.now < wal.old.header.file }
-    requires outside { IsTrue (D.tells wal.old.disk) → AreOutside wal.old.queues.items
-        wal.old.header chain.now (now (D.past wal.old.disk)) }
-    ensures clears { Clears D.tells D.past D.faults names.now chain.now wal.old wal.new }
-    ensures ok { IsTrue (D.tells wal.old.disk) → OnOk result (now (D.past wal.new.disk)
-        ≡ remove_unread chain.now (now (D.past wal.old.disk)) names.now) }
-    ensures holds { IsTrue (D.tells wal.old.disk) → OnOk result (StillHolds
-        wal.old.queues.items (now (D.past wal.old.disk)) (now (D.past wal.new.disk))) }
+    requires outside { IsTrue (D.facts.tells wal.old.disk) → AreOutside wal.old.queues.items
+        wal.old.header chain.now (now (D.facts.past wal.old.disk)) }
+    ensures clears { Clears D.facts names.now chain.now wal.old wal.new }
+    ensures ok { IsTrue (D.facts.tells wal.old.disk) → OnOk result (now (D.facts.past wal.new.disk)
+        ≡ remove_unread chain.now (now (D.facts.past wal.old.disk)) names.now) }
+    ensures holds { IsTrue (D.facts.tells wal.old.disk) → OnOk result (StillHolds
+        wal.old.queues.items (now (D.facts.past wal.old.disk)) (now (D.facts.past wal.new.disk))) }
     ensures going { OnOk result (wal.new.stopped ≡ false) }
-    ensures cause { IfErr result (IsCaused false (D.faults wal.old.disk) (D.faults wal.new.disk)) }
+    ensures cause { IfErr result (IsCaused false
+        (D.facts.faults wal.old.disk) (D.facts.faults wal.new.disk)) }
 {
     for name in names {
         if let Err(fault) = remove_one(wal, alloc, chain, *name) {

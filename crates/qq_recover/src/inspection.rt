@@ -85,17 +85,18 @@ pub fn inspect<D: NodeDisk>(
     alloc: Global,
     queues: &[QueueId],
 ) -> Result<Vec<Lane>, RecoverFault>
-    ensures ok { IsTrue (D.tells disk.old) → IfOk result (λ lanes. (read : Lanes)
-        × (lanes_read queues.now (shown (now (D.past disk.old))) ≡ Ok read)
+    ensures ok { IsTrue (D.facts.tells disk.old) → IfOk result (λ lanes. (read : Lanes)
+        × (lanes_read queues.now (shown (now (D.facts.past disk.old))) ≡ Ok read)
         × AreLanes queues.now read lanes.items) }
-    ensures err { IsTrue (D.tells disk.old) →
-        IfErr result (λ e. Fails e (lanes_read queues.now (shown (now (D.past disk.old))))) }
-    ensures spent { IsTrue (D.tells disk.old) →
-        IfErr result (IsSpentOn (now (D.past disk.old))) }
-    ensures end { IsTrue (D.tells disk.old) → (number : ℕ) → NUMBER_END ≤ number →
-        IsListed (now (D.past disk.old)) (log_of number) → OnOk result ⊥ }
-    ensures reads { OnlyReads D.tells D.past disk.old disk.new }
-    ensures cause { HasCause IsRecoverCaused (D.faults disk.old) (D.faults disk.new) result }
+    ensures err { IsTrue (D.facts.tells disk.old) →
+        IfErr result (λ e. Fails e (lanes_read queues.now (shown (now (D.facts.past disk.old))))) }
+    ensures spent { IsTrue (D.facts.tells disk.old) →
+        IfErr result (IsSpentOn (now (D.facts.past disk.old))) }
+    ensures end { IsTrue (D.facts.tells disk.old) → (number : ℕ) → NUMBER_END ≤ number →
+        IsListed (now (D.facts.past disk.old)) (log_of number) → OnOk result ⊥ }
+    ensures reads { OnlyReads D.facts disk.old disk.new }
+    ensures cause { HasCause IsRecoverCaused
+        (D.facts.faults disk.old) (D.facts.faults disk.new) result }
 {
     let names = disk.names(alloc)?;
     match read_log(disk, alloc, names.as_slice(), queues) {

@@ -73,8 +73,8 @@ pub fn these_disks_may_be_recovered()
 /// The disk of a log that goes on may be recovered, whatever files were removed from it: none that is removed has a
 /// say in what is read, since the log's own file isn't removed and each image reads as that file says.
 pub fn a_log_that_goes_on_may_be_recovered<D: NodeDisk>()
-    ensures { (w : Wal D) → IsSound D.tells D.past w → IsTrue (D.tells w.disk) →
-        w.stopped ≡ false → MayRecover w.queues.items (now (D.past w.disk)) }
+    ensures { (w : Wal D) → IsSound D.facts w → IsTrue (D.facts.tells w.disk) →
+        w.stopped ≡ false → MayRecover w.queues.items (now (D.facts.past w.disk)) }
 {
     the_log_has_a_format();
 }

@@ -62,21 +62,23 @@ fn put_together<D: NodeDisk>(
     file: u64,
     chain: Vec<FileEnd>,
 ) -> Result<Log, RecoverFault>
-    ensures gives { IsTrue (D.tells disk.old) → (listed : List QueueId) (files : List ChainFile) →
+    ensures gives { IsTrue (D.facts.tells disk.old) → (listed : List QueueId)
+        (files : List ChainFile) →
         Lists listed table → map end_of_file files ≡ chain.items →
-        AllByRecursion (IsReadAgain listed (shown (now (D.past disk.old)))) files →
+        AllByRecursion (IsReadAgain listed (shown (now (D.facts.past disk.old)))) files →
         Gives (λ log. lanes_of log.table) result (replay_files listed files (lanes_of table)) }
     ensures lists { (listed : List QueueId) → Lists listed table →
         IfOk result (λ log. Lists listed log.table) }
     ensures file { IfOk result (λ log. log.file ≡ file) }
     ensures good { IfOk result (λ log. log.good ≡ good_of chain.items) }
     ensures chain { IfOk result (λ log. log.chain ≡ chain) }
-    ensures ranges { IsTrue (D.tells disk.old) → (listed : List QueueId)
+    ensures ranges { IsTrue (D.facts.tells disk.old) → (listed : List QueueId)
         (files : List ChainFile) → map end_of_file files ≡ chain.items →
-        AllByRecursion (IsReadAgain listed (shown (now (D.past disk.old)))) files → IfOk result (λ log.
+        AllByRecursion (IsReadAgain listed (shown (now (D.facts.past disk.old)))) files →
+        IfOk result (λ log.
         ranges_in log.ranges ≡ find_files files (ranges_of queues.now)) }
-    ensures reads { OnlyReads D.tells D.past disk.old disk.new }
-    ensures cause { HasCause IsCaused (D.faults disk.old) (D.faults disk.new) result }
+    ensures reads { OnlyReads D.facts disk.old disk.new }
+    ensures cause { HasCause IsCaused (D.facts.faults disk.old) (D.facts.faults disk.new) result }
 {
     let mut table = table;
     let mut ranges = FileRanges::new(alloc, queues)?;
@@ -101,20 +103,25 @@ pub(crate) fn read_log<D: NodeDisk>(
     names: &[FileName],
     queues: &[QueueId],
 ) -> Result<Log, RecoverFault>
-    ensures lanes { IsTrue (D.tells disk.old) → IsListing (now (D.past disk.old)) names.now →
+    ensures lanes { IsTrue (D.facts.tells disk.old) →
+        IsListing (now (D.facts.past disk.old)) names.now →
         Gives (λ log. lanes_of log.table) result
-        (lanes_read queues.now (shown (now (D.past disk.old)))) }
-    ensures newest { IsTrue (D.tells disk.old) → IsListing (now (D.past disk.old)) names.now →
-        IfOk result (λ log. IsNewest queues.now (shown (now (D.past disk.old))) log.file log.good) }
-    ensures chain { IsTrue (D.tells disk.old) → IsListing (now (D.past disk.old)) names.now →
-        IfOk result (λ log. numbers_read queues.now (now (D.past disk.old))
+        (lanes_read queues.now (shown (now (D.facts.past disk.old)))) }
+    ensures newest { IsTrue (D.facts.tells disk.old) →
+        IsListing (now (D.facts.past disk.old)) names.now →
+        IfOk result (λ log. IsNewest queues.now (shown (now (D.facts.past disk.old)))
+        log.file log.good) }
+    ensures chain { IsTrue (D.facts.tells disk.old) →
+        IsListing (now (D.facts.past disk.old)) names.now →
+        IfOk result (λ log. numbers_read queues.now (now (D.facts.past disk.old))
         ≡ numbers_of_ends log.chain.items) }
     ensures lists { IfOk result (λ log. Lists queues.now log.table) }
-    ensures ranges { IsTrue (D.tells disk.old) → IsListing (now (D.past disk.old)) names.now →
+    ensures ranges { IsTrue (D.facts.tells disk.old) →
+        IsListing (now (D.facts.past disk.old)) names.now →
         IfOk result (λ log.
-        ranges_read queues.now (shown (now (D.past disk.old))) ≡ Ok (ranges_in log.ranges)) }
-    ensures reads { OnlyReads D.tells D.past disk.old disk.new }
-    ensures cause { HasCause IsCaused (D.faults disk.old) (D.faults disk.new) result }
+        ranges_read queues.now (shown (now (D.facts.past disk.old))) ≡ Ok (ranges_in log.ranges)) }
+    ensures reads { OnlyReads D.facts disk.old disk.new }
+    ensures cause { HasCause IsCaused (D.facts.faults disk.old) (D.facts.faults disk.new) result }
 {
     the_log_has_a_format();
     let table = Table::new(alloc, queues)?;

@@ -31,10 +31,10 @@ pub(crate) fn has_whole_header<D: NodeDisk>(
     alloc: Global,
     number: u64,
 ) -> Result<bool, DiskFault>
-    ensures ok { IsTrue (D.tells disk.old) → IfOk result (λ has.
-        has ≡ has_log (shown (now (D.past disk.old))) number) }
-    ensures reads { OnlyReads D.tells D.past disk.old disk.new }
-    ensures cause { HasCause IsCaused (D.faults disk.old) (D.faults disk.new) result }
+    ensures ok { IsTrue (D.facts.tells disk.old) → IfOk result (λ has.
+        has ≡ has_log (shown (now (D.facts.past disk.old))) number) }
+    ensures reads { OnlyReads D.facts disk.old disk.new }
+    ensures cause { HasCause IsCaused (D.facts.faults disk.old) (D.facts.faults disk.new) result }
 {
     the_log_has_a_format();
     let mut front = [0; 38];
@@ -48,10 +48,10 @@ pub(crate) fn read_file<D: NodeDisk>(
     alloc: Global,
     file: FileName,
 ) -> Result<Vec<u8>, DiskFault>
-    ensures ok { IsTrue (D.tells disk.old) → IfOk result (λ bytes.
-        bytes.items ≡ content (now (D.past disk.old)) file) }
-    ensures reads { OnlyReads D.tells D.past disk.old disk.new }
-    ensures cause { HasCause IsCaused (D.faults disk.old) (D.faults disk.new) result }
+    ensures ok { IsTrue (D.facts.tells disk.old) → IfOk result (λ bytes.
+        bytes.items ≡ content (now (D.facts.past disk.old)) file) }
+    ensures reads { OnlyReads D.facts disk.old disk.new }
+    ensures cause { HasCause IsCaused (D.facts.faults disk.old) (D.facts.faults disk.new) result }
 {
     let size = disk.size(alloc, file)?;
     let mut bytes = vec![in alloc; 0; size as usize]?;
@@ -78,11 +78,12 @@ pub(crate) fn read_listed<D: NodeDisk>(
     names: &[FileName],
     number: u64,
 ) -> Result<Option<Vec<u8>>, DiskFault>
-    ensures ok { IsTrue (D.tells disk.old) → IsListing (now (D.past disk.old)) names.now →
+    ensures ok { IsTrue (D.facts.tells disk.old) →
+        IsListing (now (D.facts.past disk.old)) names.now →
         IfOk result (λ bytes.
-        option_map (λ b. b.items) bytes ≡ shown (now (D.past disk.old)) number) }
-    ensures reads { OnlyReads D.tells D.past disk.old disk.new }
-    ensures cause { HasCause IsCaused (D.faults disk.old) (D.faults disk.new) result }
+        option_map (λ b. b.items) bytes ≡ shown (now (D.facts.past disk.old)) number) }
+    ensures reads { OnlyReads D.facts disk.old disk.new }
+    ensures cause { HasCause IsCaused (D.facts.faults disk.old) (D.facts.faults disk.new) result }
 {
     let file = log_of(number);
     if is_among(names, file) {
@@ -99,10 +100,10 @@ fn newer_log<D: NodeDisk>(
     newest: u64,
     number: u64,
 ) -> Result<u64, DiskFault>
-    ensures ok { IsTrue (D.tells disk.old) → IfOk result (λ n.
-        n ≡ newer_log (has_log (shown (now (D.past disk.old)))) newest number) }
-    ensures reads { OnlyReads D.tells D.past disk.old disk.new }
-    ensures cause { HasCause IsCaused (D.faults disk.old) (D.faults disk.new) result }
+    ensures ok { IsTrue (D.facts.tells disk.old) → IfOk result (λ n.
+        n ≡ newer_log (has_log (shown (now (D.facts.past disk.old)))) newest number) }
+    ensures reads { OnlyReads D.facts disk.old disk.new }
+    ensures cause { HasCause IsCaused (D.facts.faults disk.old) (D.facts.faults disk.new) result }
 {
     if number <= newest {
         return Ok(newest);
@@ -119,10 +120,10 @@ fn newer<D: NodeDisk>(
     newest: u64,
     file: FileName,
 ) -> Result<u64, DiskFault>
-    ensures ok { IsTrue (D.tells disk.old) → IfOk result (λ n.
-        n ≡ newer (has_log (shown (now (D.past disk.old)))) newest file) }
-    ensures reads { OnlyReads D.tells D.past disk.old disk.new }
-    ensures cause { HasCause IsCaused (D.faults disk.old) (D.faults disk.new) result }
+    ensures ok { IsTrue (D.facts.tells disk.old) → IfOk result (λ n.
+        n ≡ newer (has_log (shown (now (D.facts.past disk.old)))) newest file) }
+    ensures reads { OnlyReads D.facts disk.old disk.new }
+    ensures cause { HasCause IsCaused (D.facts.faults disk.old) (D.facts.faults disk.new) result }
 {
     match file.kind {
         FileKind::Log => newer_log(disk, alloc, newest, file.number),
@@ -137,11 +138,12 @@ pub(crate) fn newest_file<D: NodeDisk>(
     alloc: Global,
     names: &[FileName],
 ) -> Result<u64, DiskFault>
-    ensures ok { IsTrue (D.tells disk.old) → IsListing (now (D.past disk.old)) names.now →
+    ensures ok { IsTrue (D.facts.tells disk.old) →
+        IsListing (now (D.facts.past disk.old)) names.now →
         (queues : List QueueId) →
-        IfOk result (λ n. n ≡ newest_file queues (shown (now (D.past disk.old)))) }
-    ensures reads { OnlyReads D.tells D.past disk.old disk.new }
-    ensures cause { HasCause IsCaused (D.faults disk.old) (D.faults disk.new) result }
+        IfOk result (λ n. n ≡ newest_file queues (shown (now (D.facts.past disk.old)))) }
+    ensures reads { OnlyReads D.facts disk.old disk.new }
+    ensures cause { HasCause IsCaused (D.facts.faults disk.old) (D.facts.faults disk.new) result }
 {
     let mut newest = 0;
     for name in names {

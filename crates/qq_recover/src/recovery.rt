@@ -50,31 +50,31 @@ fn begin_behind<D: NodeDisk>(
     log_bytes: u64,
 ) -> Result<Recovered<D>, (RecoverFault, D)>
     requires start { IsStart queues.now start }
-    requires goes_on { IsTrue (D.tells disk) → MayBegin queues.now start.header start.carries.items
-        start.names.items (now (D.past disk)) }
-    requires chain { IsTrue (D.tells disk) →
-        numbers_read queues.now (now (D.past disk)) ≡ numbers_of_ends start.chain.items }
-    ensures sound { IfOk result (λ r. IsSound D.tells D.past (wal_of r)) }
+    requires goes_on { IsTrue (D.facts.tells disk) → MayBegin queues.now start.header
+        start.carries.items start.names.items (now (D.facts.past disk)) }
+    requires chain { IsTrue (D.facts.tells disk) →
+        numbers_read queues.now (now (D.facts.past disk)) ≡ numbers_of_ends start.chain.items }
+    ensures sound { IfOk result (λ r. IsSound D.facts (wal_of r)) }
     ensures begun { IfOk result (
         IsBegunAbove queues.now start.names.items (ranges_in start.ranges) log_bytes) }
     ensures header { IfOk result (λ r. (wal_of r).header ≡ start.header) }
     ensures lanes { IfOk result (λ r. lanes_left r ≡ lanes_of start.table) }
-    ensures stays { IsTrue (D.tells disk) →
-        Stays queues.now (D.past disk) (D.past (disk_of result)) }
-    ensures holds { IsTrue (D.tells disk) → OnOk result (
-        StillHolds queues.now (now (D.past disk)) (now (D.past (disk_of result)))) }
-    ensures others { IsTrue (D.tells disk) →
-        StaysBeside (log_of start.header.file) (D.past disk) (D.past (disk_of result))
+    ensures stays { IsTrue (D.facts.tells disk) →
+        Stays queues.now (D.facts.past disk) (D.facts.past (disk_of result)) }
+    ensures holds { IsTrue (D.facts.tells disk) → OnOk result (
+        StillHolds queues.now (now (D.facts.past disk)) (now (D.facts.past (disk_of result)))) }
+    ensures others { IsTrue (D.facts.tells disk) →
+        StaysBeside (log_of start.header.file) (D.facts.past disk) (D.facts.past (disk_of result))
         ⊎ BeginsAndClears start.names.items start.chain.items (log_of start.header.file)
-        (D.past disk) (D.past (disk_of result)) }
-    ensures removed { IsTrue (D.tells disk) → OnOk result ((file : FileName) →
+        (D.facts.past disk) (D.facts.past (disk_of result)) }
+    ensures removed { IsTrue (D.facts.tells disk) → OnOk result ((file : FileName) →
         Contains start.names.items file → is_unread start.chain.items file ≡ true →
-        contents (now (D.past (disk_of result))) file ≡ None) }
-    ensures may { IsTrue (D.tells disk) →
-        StillMayRecover queues.now (D.past disk) (D.past (disk_of result)) }
-    ensures told { D.tells (disk_of result) ≡ D.tells disk }
-    ensures later { D.faults disk ≤ D.faults (disk_of result) }
-    ensures cause { IfErr result (λ e. IsDiskCaused (D.faults disk) (D.faults e.1) e.0) }
+        contents (now (D.facts.past (disk_of result))) file ≡ None) }
+    ensures may { IsTrue (D.facts.tells disk) →
+        StillMayRecover queues.now (D.facts.past disk) (D.facts.past (disk_of result)) }
+    ensures told { D.facts.tells (disk_of result) ≡ D.facts.tells disk }
+    ensures later { D.facts.faults disk ≤ D.facts.faults (disk_of result) }
+    ensures cause { IfErr result (λ e. IsDiskCaused (D.facts.faults disk) (D.facts.faults e.1) e.0) }
 {
     let Start {
         header,
@@ -134,39 +134,42 @@ pub fn recover<D: NodeDisk>(
     queues: &[QueueId],
     log_bytes: u64,
 ) -> Result<Recovered<D>, (RecoverFault, D)>
-    requires { IsTrue (D.tells disk) → MayRecover queues.now (now (D.past disk)) }
-    ensures sound { IfOk result (λ r. IsSound D.tells D.past (wal_of r)) }
+    requires { IsTrue (D.facts.tells disk) → MayRecover queues.now (now (D.facts.past disk)) }
+    ensures sound { IfOk result (λ r. IsSound D.facts (wal_of r)) }
     ensures knows { IfOk result (KnowsLanes queues.now) }
     ensures goes_on { IfOk result (IsNewLog queues.now log_bytes) }
-    ensures begun { IsTrue (D.tells disk) →
-        IfOk result (IsBegunBehind queues.now log_bytes (now (D.past disk))) }
-    ensures lanes { IsTrue (D.tells disk) → IfOk result (λ r.
-        lanes_read queues.now (shown (now (D.past disk))) ≡ Ok (lanes_left r)) }
-    ensures refused { IsTrue (D.tells disk) → IfErr result (λ e.
-        Fails e.0 (lanes_read queues.now (shown (now (D.past disk))))) }
-    ensures stays { IsTrue (D.tells disk) →
-        Stays queues.now (D.past disk) (D.past (disk_of result)) }
-    ensures settles { IsTrue (D.tells disk) → (noticed given : List Op) →
-        KeepsPromise queues.now top noticed given (now (D.past disk)) → IfOk result (λ r.
-        SettlesLanes queues.now noticed given (lanes_left r) (now (D.past (disk_of result)))) }
-    ensures never_refused { IsTrue (D.tells disk) → (noticed given : List Op) →
-        KeepsPromise queues.now top noticed given (now (D.past disk)) →
+    ensures begun { IsTrue (D.facts.tells disk) →
+        IfOk result (IsBegunBehind queues.now log_bytes (now (D.facts.past disk))) }
+    ensures lanes { IsTrue (D.facts.tells disk) → IfOk result (λ r.
+        lanes_read queues.now (shown (now (D.facts.past disk))) ≡ Ok (lanes_left r)) }
+    ensures refused { IsTrue (D.facts.tells disk) → IfErr result (λ e.
+        Fails e.0 (lanes_read queues.now (shown (now (D.facts.past disk))))) }
+    ensures stays { IsTrue (D.facts.tells disk) →
+        Stays queues.now (D.facts.past disk) (D.facts.past (disk_of result)) }
+    ensures settles { IsTrue (D.facts.tells disk) → (noticed given : List Op) →
+        KeepsPromise queues.now top noticed given (now (D.facts.past disk)) → IfOk result (λ r.
+        SettlesLanes queues.now noticed given (lanes_left r)
+        (now (D.facts.past (disk_of result)))) }
+    ensures never_refused { IsTrue (D.facts.tells disk) → (noticed given : List Op) →
+        KeepsPromise queues.now top noticed given (now (D.facts.past disk)) →
         IfErr result (λ e. IsNoRefusal e.0) }
-    ensures spent { IsTrue (D.tells disk) →
-        IfErr result (λ e. IsSpentOn (now (D.past disk)) e.0) }
-    ensures end { IsTrue (D.tells disk) → (number : ℕ) → NUMBER_END ≤ number →
-        IsListed (now (D.past disk)) (log_of number) → OnOk result ⊥ }
-    ensures others { IsTrue (D.tells disk) → StaysSyncing (D.past disk) (D.past (disk_of result))
-        ⊎ (BeginsOne (D.past disk) (D.past (disk_of result))
-        ⊎ RemovesUnread queues.now (D.past disk) (D.past (disk_of result))) }
-    ensures removed { IsTrue (D.tells disk) → OnOk result ((file : FileName) →
-        IsUnread queues.now (now (D.past disk)) file →
-        contents (now (D.past (disk_of result))) file ≡ None) }
-    ensures may { IsTrue (D.tells disk) →
-        StillMayRecover queues.now (D.past disk) (D.past (disk_of result)) }
-    ensures told { D.tells (disk_of result) ≡ D.tells disk }
-    ensures later { D.faults disk ≤ D.faults (disk_of result) }
-    ensures cause { IfErr result (λ e. IsRecoverCaused (D.faults disk) (D.faults e.1) e.0) }
+    ensures spent { IsTrue (D.facts.tells disk) →
+        IfErr result (λ e. IsSpentOn (now (D.facts.past disk)) e.0) }
+    ensures end { IsTrue (D.facts.tells disk) → (number : ℕ) → NUMBER_END ≤ number →
+        IsListed (now (D.facts.past disk)) (log_of number) → OnOk result ⊥ }
+    ensures others { IsTrue (D.facts.tells disk) →
+        StaysSyncing (D.facts.past disk) (D.facts.past (disk_of result))
+        ⊎ (BeginsOne (D.facts.past disk) (D.facts.past (disk_of result))
+        ⊎ RemovesUnread queues.now (D.facts.past disk) (D.facts.past (disk_of result))) }
+    ensures removed { IsTrue (D.facts.tells disk) → OnOk result ((file : FileName) →
+        IsUnread queues.now (now (D.facts.past disk)) file →
+        contents (now (D.facts.past (disk_of result))) file ≡ None) }
+    ensures may { IsTrue (D.facts.tells disk) →
+        StillMayRecover queues.now (D.facts.past disk) (D.facts.past (disk_of result)) }
+    ensures told { D.facts.tells (disk_of result) ≡ D.facts.tells disk }
+    ensures later { D.facts.faults disk ≤ D.facts.faults (disk_of result) }
+    ensures cause { IfErr result (λ e. IsRecoverCaused (D.facts.faults disk)
+        (D.facts.faults e.1) e.0) }
 {
     the_log_has_a_format();
     syncs_settle_what_is_read();

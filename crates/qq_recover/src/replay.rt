@@ -79,11 +79,11 @@ fn read_again<D: NodeDisk>(
     alloc: Global,
     end: &FileEnd,
 ) -> Result<ChainFile, RecoverFault>
-    ensures gives { IsTrue (D.tells disk.old) → (queues : List QueueId) (file : ChainFile) →
-        IsReadAgain queues (shown (now (D.past disk.old))) file → end_of_file file ≡ end.now →
+    ensures gives { IsTrue (D.facts.tells disk.old) → (queues : List QueueId) (file : ChainFile) →
+        IsReadAgain queues (shown (now (D.facts.past disk.old))) file → end_of_file file ≡ end.now →
         Gives (λ read. read) result (Ok file) }
-    ensures reads { OnlyReads D.tells D.past disk.old disk.new }
-    ensures cause { HasCause IsCaused (D.faults disk.old) (D.faults disk.new) result }
+    ensures reads { OnlyReads D.facts disk.old disk.new }
+    ensures cause { HasCause IsCaused (D.facts.faults disk.old) (D.facts.faults disk.new) result }
 {
     the_log_has_a_format();
     let number = end.number();
@@ -104,19 +104,19 @@ fn replay_at<D: NodeDisk>(
     ranges: &mut FileRanges,
 ) -> Result<(), RecoverFault>
     requires { place < length chain.now }
-    ensures gives { IsTrue (D.tells disk.old) → (queues : List QueueId) (file : ChainFile) →
-        Lists queues table.old → IsReadAgain queues (shown (now (D.past disk.old))) file →
+    ensures gives { IsTrue (D.facts.tells disk.old) → (queues : List QueueId) (file : ChainFile) →
+        Lists queues table.old → IsReadAgain queues (shown (now (D.facts.past disk.old))) file →
         (other : End) → end_of_file file ≡ slice_index_or chain.now place other →
         Gives (λ _. lanes_of table.new) result
         (replay_records queues file.number file.records (lanes_of table.old)) }
     ensures lists { (queues : List QueueId) → Lists queues table.old → Lists queues table.new }
-    ensures ranges { IsTrue (D.tells disk.old) → (queues : List QueueId) (file : ChainFile) →
-        IsReadAgain queues (shown (now (D.past disk.old))) file →
+    ensures ranges { IsTrue (D.facts.tells disk.old) → (queues : List QueueId) (file : ChainFile) →
+        IsReadAgain queues (shown (now (D.facts.past disk.old))) file →
         (other : End) → end_of_file file ≡ slice_index_or chain.now place other →
         OnOk result (ranges_in ranges.new
         ≡ fold (find_record file.number) (ranges_in ranges.old) file.records) }
-    ensures reads { OnlyReads D.tells D.past disk.old disk.new }
-    ensures cause { HasCause IsCaused (D.faults disk.old) (D.faults disk.new) result }
+    ensures reads { OnlyReads D.facts disk.old disk.new }
+    ensures cause { HasCause IsCaused (D.facts.faults disk.old) (D.facts.faults disk.new) result }
 {
     match read_again(disk, alloc, &chain[place]) {
         Ok(file) => add_file(alloc, table, ranges, file),
@@ -133,18 +133,18 @@ pub(crate) fn replay_chain<D: NodeDisk>(
     table: &mut Table,
     ranges: &mut FileRanges,
 ) -> Result<(), RecoverFault>
-    ensures gives { IsTrue (D.tells disk.old) → (queues : List QueueId)
+    ensures gives { IsTrue (D.facts.tells disk.old) → (queues : List QueueId)
         (files : List ChainFile) → Lists queues table.old → map end_of_file files ≡ chain.now →
-        AllByRecursion (IsReadAgain queues (shown (now (D.past disk.old)))) files →
+        AllByRecursion (IsReadAgain queues (shown (now (D.facts.past disk.old)))) files →
         Gives (λ _. lanes_of table.new) result
         (replay_files queues files (lanes_of table.old)) }
     ensures lists { (queues : List QueueId) → Lists queues table.old → Lists queues table.new }
-    ensures ranges { IsTrue (D.tells disk.old) → (queues : List QueueId)
+    ensures ranges { IsTrue (D.facts.tells disk.old) → (queues : List QueueId)
         (files : List ChainFile) → map end_of_file files ≡ chain.now →
-        AllByRecursion (IsReadAgain queues (shown (now (D.past disk.old)))) files →
+        AllByRecursion (IsReadAgain queues (shown (now (D.facts.past disk.old)))) files →
         OnOk result (ranges_in ranges.new ≡ find_files files (ranges_in ranges.old)) }
-    ensures reads { OnlyReads D.tells D.past disk.old disk.new }
-    ensures cause { HasCause IsCaused (D.faults disk.old) (D.faults disk.new) result }
+    ensures reads { OnlyReads D.facts disk.old disk.new }
+    ensures cause { HasCause IsCaused (D.facts.faults disk.old) (D.facts.faults disk.new) result }
 {
     let mut left = chain.len();
     'files: while left > 0 {

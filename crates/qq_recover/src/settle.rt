@@ -14,15 +14,16 @@ use std::alloc::Global;
 
 /// Syncs a file.
 fn sync_one<D: NodeDisk>(disk: &mut D, alloc: Global, file: FileName) -> Result<(), DiskFault>
-    ensures ok { IsTrue (D.tells disk.old) →
-        OnOk result (now (D.past disk.new) ≡ sync (now (D.past disk.old)) file) }
-    ensures stays { IsTrue (D.tells disk.old) → (queues : List QueueId) →
-        Stays queues (D.past disk.old) (D.past disk.new) }
-    ensures only { IsTrue (D.tells disk.old) → StaysSyncing (D.past disk.old) (D.past disk.new) }
-    ensures may { IsTrue (D.tells disk.old) → (queues : List QueueId) →
-        StillMayRecover queues (D.past disk.old) (D.past disk.new) }
-    ensures told { D.tells disk.new ≡ D.tells disk.old }
-    ensures cause { HasCause IsCaused (D.faults disk.old) (D.faults disk.new) result }
+    ensures ok { IsTrue (D.facts.tells disk.old) →
+        OnOk result (now (D.facts.past disk.new) ≡ sync (now (D.facts.past disk.old)) file) }
+    ensures stays { IsTrue (D.facts.tells disk.old) → (queues : List QueueId) →
+        Stays queues (D.facts.past disk.old) (D.facts.past disk.new) }
+    ensures only { IsTrue (D.facts.tells disk.old) →
+        StaysSyncing (D.facts.past disk.old) (D.facts.past disk.new) }
+    ensures may { IsTrue (D.facts.tells disk.old) → (queues : List QueueId) →
+        StillMayRecover queues (D.facts.past disk.old) (D.facts.past disk.new) }
+    ensures told { D.facts.tells disk.new ≡ D.facts.tells disk.old }
+    ensures cause { HasCause IsCaused (D.facts.faults disk.old) (D.facts.faults disk.new) result }
 {
     the_log_has_a_format();
     disk.sync(alloc, file)
@@ -34,15 +35,17 @@ pub(crate) fn settle_all<D: NodeDisk>(
     alloc: Global,
     names: &[FileName],
 ) -> Result<(), DiskFault>
-    ensures ok { IsTrue (D.tells disk.old) →
-        OnOk result (now (D.past disk.new) ≡ sync_all (now (D.past disk.old)) names.now) }
-    ensures stays { IsTrue (D.tells disk.old) → (queues : List QueueId) →
-        Stays queues (D.past disk.old) (D.past disk.new) }
-    ensures only { IsTrue (D.tells disk.old) → StaysSyncing (D.past disk.old) (D.past disk.new) }
-    ensures may { IsTrue (D.tells disk.old) → (queues : List QueueId) →
-        StillMayRecover queues (D.past disk.old) (D.past disk.new) }
-    ensures told { D.tells disk.new ≡ D.tells disk.old }
-    ensures cause { HasCause IsCaused (D.faults disk.old) (D.faults disk.new) result }
+    ensures ok { IsTrue (D.facts.tells disk.old) →
+        OnOk result (now (D.facts.past disk.new)
+        ≡ sync_all (now (D.facts.past disk.old)) names.now) }
+    ensures stays { IsTrue (D.facts.tells disk.old) → (queues : List QueueId) →
+        Stays queues (D.facts.past disk.old) (D.facts.past disk.new) }
+    ensures only { IsTrue (D.facts.tells disk.old) →
+        StaysSyncing (D.facts.past disk.old) (D.facts.past disk.new) }
+    ensures may { IsTrue (D.facts.tells disk.old) → (queues : List QueueId) →
+        StillMayRecover queues (D.facts.past disk.old) (D.facts.past disk.new) }
+    ensures told { D.facts.tells disk.new ≡ D.facts.tells disk.old }
+    ensures cause { HasCause IsCaused (D.facts.faults disk.old) (D.facts.faults disk.new) result }
 {
     for name in names {
         sync_one(disk, alloc, *name)?;

@@ -143,20 +143,22 @@ pub(crate) fn prepare<D: NodeDisk>(
     queues: &[QueueId],
 ) -> Result<Start, RecoverFault>
     ensures start { IfOk result (IsStart queues.now) }
-    ensures read { IsTrue (D.tells disk.old) →
-        IfOk result (IsReadOf queues.now (now (D.past disk.old)) (now (D.past disk.new))) }
-    ensures lanes { IsTrue (D.tells disk.old) → Gives (λ s. lanes_of s.table) result
-        (lanes_read queues.now (shown (now (D.past disk.old)))) }
-    ensures stays { IsTrue (D.tells disk.old) →
-        Stays queues.now (D.past disk.old) (D.past disk.new) }
-    ensures only { IsTrue (D.tells disk.old) → StaysSyncing (D.past disk.old) (D.past disk.new) }
-    ensures may { IsTrue (D.tells disk.old) →
-        StillMayRecover queues.now (D.past disk.old) (D.past disk.new) }
-    ensures told { D.tells disk.new ≡ D.tells disk.old }
-    ensures later { D.faults disk.old ≤ D.faults disk.new }
-    ensures cause { IfErr result (IsRecoverCaused (D.faults disk.old) (D.faults disk.new)) }
-    ensures spent { IsTrue (D.tells disk.old) →
-        IfErr result (IsSpentOn (now (D.past disk.old))) }
+    ensures read { IsTrue (D.facts.tells disk.old) →
+        IfOk result (IsReadOf queues.now (now (D.facts.past disk.old))
+        (now (D.facts.past disk.new))) }
+    ensures lanes { IsTrue (D.facts.tells disk.old) → Gives (λ s. lanes_of s.table) result
+        (lanes_read queues.now (shown (now (D.facts.past disk.old)))) }
+    ensures stays { IsTrue (D.facts.tells disk.old) →
+        Stays queues.now (D.facts.past disk.old) (D.facts.past disk.new) }
+    ensures only { IsTrue (D.facts.tells disk.old) →
+        StaysSyncing (D.facts.past disk.old) (D.facts.past disk.new) }
+    ensures may { IsTrue (D.facts.tells disk.old) →
+        StillMayRecover queues.now (D.facts.past disk.old) (D.facts.past disk.new) }
+    ensures told { D.facts.tells disk.new ≡ D.facts.tells disk.old }
+    ensures later { D.facts.faults disk.old ≤ D.facts.faults disk.new }
+    ensures cause { IfErr result (IsRecoverCaused (D.facts.faults disk.old) (D.facts.faults disk.new)) }
+    ensures spent { IsTrue (D.facts.tells disk.old) →
+        IfErr result (IsSpentOn (now (D.facts.past disk.old))) }
 {
     let names = disk.names(alloc)?;
     if let Err(fault) = settle_all(disk, alloc, names.as_slice()) {

@@ -67,12 +67,13 @@ pub(crate) fn chain_ends<D: NodeDisk>(
     names: &[FileName],
     newest: u64,
 ) -> Result<Vec<FileEnd>, RecoverFault>
-    ensures gives { IsTrue (D.tells disk.old) → IsListing (now (D.past disk.old)) names.now →
-        (queues : List QueueId) → let logs = shown (now (D.past disk.old)) in
+    ensures gives { IsTrue (D.facts.tells disk.old) →
+        IsListing (now (D.facts.past disk.old)) names.now →
+        (queues : List QueueId) → let logs = shown (now (D.facts.past disk.old)) in
         Gives (λ ends. ends.items) result
         (chain_ends queues top logs newest (good_length (wal queues) newest (logs newest))) }
-    ensures reads { OnlyReads D.tells D.past disk.old disk.new }
-    ensures cause { HasCause IsCaused (D.faults disk.old) (D.faults disk.new) result }
+    ensures reads { OnlyReads D.facts disk.old disk.new }
+    ensures cause { HasCause IsCaused (D.facts.faults disk.old) (D.facts.faults disk.new) result }
 {
     the_log_has_a_format();
     let mut ends = Vec::new(alloc);

@@ -4,6 +4,7 @@ use Rattle.qq_disk.specs.declared.fault.DiskFault.{DiskFault}
 use Rattle.qq_disk.specs.declared.fault.DiskFault.TheVariants.{Failed, Memory as OfMemory}
 use Rattle.qq_disk.specs.declared.name.FileName.{FileName}
 use Rattle.qq_disk.specs.Disk.{Disk, FileState, IsListed, append, append_target, file_content, grow, new_file, now}
+use Rattle.qq_disk.specs.Facts.{DiskFacts}
 use Rattle.qq_disk.specs.Fault.{IsCaused as IsDiskCaused}
 use Rattle.qq_disk.specs.Image.{log_of}
 use Rattle.qq_disk.specs.Moments.{StaysAtWant}
@@ -17,11 +18,11 @@ use Rattle.qq_wal.specs.Wal.{IsKept, IsOnDisk, IsSound}
 use Rattle.qq_wal.proofs.Batches.{told_before}
 
 -- it is sound behind it, stopped or over a disk that is as it was
-pub still-sound : {D : Type 0} (tells : D → Bool) (past : D → List Disk) (w : Wal D) (d : D) (stopped : Bool)
-    → IsSound tells past w → w.stopped ≡ false → tells d ≡ tells w.disk
-    → (IsTrue (tells w.disk) → stopped ≡ false → past d ≡ past w.disk)
-    → IsSound tells past (record w { disk = d; stopped = stopped })
-still-sound tells past w d stopped s going same stays = record {
+pub still-sound : {D : Type 0} (facts : DiskFacts D) (w : Wal D) (d : D) (stopped : Bool)
+    → IsSound facts w → w.stopped ≡ false → facts.tells d ≡ facts.tells w.disk
+    → (IsTrue (facts.tells w.disk) → stopped ≡ false → facts.past d ≡ facts.past w.disk)
+    → IsSound facts (record w { disk = d; stopped = stopped })
+still-sound facts w d stopped s going same stays = record {
   waiting = s.waiting;
   follow = s.follow;
   queues_are = s.queues_are;

@@ -2,6 +2,7 @@
 use Rattle.std.proofs.Common.{◌≡◌, ℕ, Bool, true, false, cond, eqb, List, [], length, Option, Some, None, option_map, refl, sym, ap, ◌∙◌, inl, inr, subst, unwrap_or, IsTrue}
 use Rattle.qq_base.specs.declared.ids.QueueId.{QueueId}
 use Rattle.qq_disk.specs.Disk.{Disk, FileState, file_content, mark_removed, now}
+use Rattle.qq_disk.specs.Facts.{DiskFacts}
 use Rattle.qq_disk.specs.Image.{log_of}
 use Rattle.qq_disk.specs.Moments.{Adds, IsRemoving}
 use Rattle.qq_disk.proofs.Moments.{adds-weaker}
@@ -130,15 +131,15 @@ removed-stays queues laws h m old new written out a noticed given keeps =
     noticed given e keeps is) a
 
 -- and the log is sound
-pub removed-sound : {D : Type 0} (tells : D → Bool) (past : D → List Disk) (w : Wal D) (d : D) (m : ℕ)
-    → IsFormat (wal w.queues.items) → IsSound tells past w → tells d ≡ tells w.disk
-    → (IsTrue (tells w.disk) → w.stopped ≡ false → IsOutside w.queues.items w.header (now (past w.disk)) m
-    × IsRemoving (now (past w.disk)) (log_of m) (now (past d)))
-    → IsSound tells past (record w { disk = d })
-removed-sound tells past w d m laws is same removes =
+pub removed-sound : {D : Type 0} (facts : DiskFacts D) (w : Wal D) (d : D) (m : ℕ)
+    → IsFormat (wal w.queues.items) → IsSound facts w → facts.tells d ≡ facts.tells w.disk
+    → (IsTrue (facts.tells w.disk) → w.stopped ≡ false → IsOutside w.queues.items w.header (now (facts.past w.disk)) m
+    × IsRemoving (now (facts.past w.disk)) (log_of m) (now (facts.past d)))
+    → IsSound facts (record w { disk = d })
+removed-sound facts w d m laws is same removes =
     let queues = w.queues.items in
-    let before = now (past w.disk) in
-    let after = now (past d) in
+    let before = now (facts.past w.disk) in
+    let after = now (facts.past d) in
     record {
       waiting = is.waiting;
       follow = is.follow;

@@ -6,6 +6,7 @@ use Rattle.qq_base.specs.declared.ids.QueueId.{QueueId}
 use Rattle.qq_disk.specs.declared.name.FileKind.TheVariants.{Log}
 use Rattle.qq_disk.specs.declared.name.FileName.{FileName}
 use Rattle.qq_disk.specs.Disk.{Disk, now, content, file_content}
+use Rattle.qq_disk.specs.Facts.{DiskFacts}
 use Rattle.qq_disk.specs.Image.{log_of}
 use Rattle.qq_log.specs.Carries.{Carries}
 use Rattle.qq_log.specs.declared.lane.Carry.{Carry}
@@ -48,7 +49,7 @@ pub record IsKept (queues : List QueueId) (header : Header) (marks : List Mark) 
 
 -- Each record that waits may be written, behind those before it. Where the disk tells its contents and no call has
 -- failed, the disk is as the log knows it, and where nothing was appended since the last sync, nothing waits for one.
-pub record IsSound {D : Type 0} (tells : D → Bool) (past : D → List Disk) (w : Wal D) : Type 0 where
+pub record IsSound {D : Type 0} (facts : DiskFacts D) (w : Wal D) : Type 0 where
   pub waiting : AllFitBatch w.waiting.items
   pub follow : AllFollow w.queues.items (known w.marks) w.waiting.items
   pub queues_are : queues_in w.marks ≡ w.queues.items
@@ -56,12 +57,12 @@ pub record IsSound {D : Type 0} (tells : D → Bool) (past : D → List Disk) (w
   pub number : w.header.file ≤ w.numbers.log
   pub counted : AreCounted w.marks
   pub named : AreNamed w.marks
-  pub on_disk : IsTrue (tells w.disk) → w.stopped ≡ false
-      → IsOnDisk w.queues.items w.header w.marks w.size w.numbers (now (past w.disk))
-  pub synced : IsTrue (tells w.disk) → w.stopped ≡ false → w.dirty ≡ false
-      → IsSynced w.queues.items w.header (now (past w.disk))
-  pub kept : IsTrue (tells w.disk) → w.stopped ≡ false
-      → IsKept w.queues.items w.header w.marks (now (past w.disk))
+  pub on_disk : IsTrue (facts.tells w.disk) → w.stopped ≡ false
+      → IsOnDisk w.queues.items w.header w.marks w.size w.numbers (now (facts.past w.disk))
+  pub synced : IsTrue (facts.tells w.disk) → w.stopped ≡ false → w.dirty ≡ false
+      → IsSynced w.queues.items w.header (now (facts.past w.disk))
+  pub kept : IsTrue (facts.tells w.disk) → w.stopped ≡ false
+      → IsKept w.queues.items w.header w.marks (now (facts.past w.disk))
 
 -- what each queue has once all that waits is appended
 abbrev pub carries_ahead : {D : Type 0} → Wal D → Carries

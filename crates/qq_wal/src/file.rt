@@ -32,61 +32,63 @@ pub(crate) fn begin_file<D: NodeDisk>(
     header: Header,
     bytes: &[u8],
 ) -> Result<(), (DiskFault, bool)>
-    ensures stays { IsTrue (D.tells disk.old) → (queues : List QueueId)
+    ensures stays { IsTrue (D.facts.tells disk.old) → (queues : List QueueId)
         (before : Found (wal queues)) (carries : List LogRecord) →
         Continues (wal queues) top before header.file (Ours header) carries
-        (files_of (now (D.past disk.old))) →
+        (files_of (now (D.facts.past disk.old))) →
         bytes.now ≡ first_bytes queues header.file (Ours header) carries →
-        Stays queues (D.past disk.old) (D.past disk.new) }
-    ensures log { IsTrue (D.tells disk.old) → (queues : List QueueId)
+        Stays queues (D.facts.past disk.old) (D.facts.past disk.new) }
+    ensures log { IsTrue (D.facts.tells disk.old) → (queues : List QueueId)
         (before : Found (wal queues)) (carries : List LogRecord) →
         Continues (wal queues) top before header.file (Ours header) carries
-        (files_of (now (D.past disk.old))) →
+        (files_of (now (D.facts.past disk.old))) →
         bytes.now ≡ first_bytes queues header.file (Ours header) carries →
-        OnOk result (IsWrittenTo queues header (now (D.past disk.new))
-        × IsSynced queues header (now (D.past disk.new))) }
-    ensures shown { IsTrue (D.tells disk.old) → (queues : List QueueId)
+        OnOk result (IsWrittenTo queues header (now (D.facts.past disk.new))
+        × IsSynced queues header (now (D.facts.past disk.new))) }
+    ensures shown { IsTrue (D.facts.tells disk.old) → (queues : List QueueId)
         (before : Found (wal queues)) (carries : List LogRecord) →
         Continues (wal queues) top before header.file (Ours header) carries
-        (files_of (now (D.past disk.old))) →
+        (files_of (now (D.facts.past disk.old))) →
         bytes.now ≡ first_bytes queues header.file (Ours header) carries →
-        OnOk result (lanes_shown queues (now (D.past disk.new))
-        ≡ lanes_shown queues (now (D.past disk.old))) }
-    ensures length { IsTrue (D.tells disk.old) → (queues : List QueueId)
+        OnOk result (lanes_shown queues (now (D.facts.past disk.new))
+        ≡ lanes_shown queues (now (D.facts.past disk.old))) }
+    ensures length { IsTrue (D.facts.tells disk.old) → (queues : List QueueId)
         (before : Found (wal queues)) (carries : List LogRecord) →
         Continues (wal queues) top before header.file (Ours header) carries
-        (files_of (now (D.past disk.old))) →
+        (files_of (now (D.facts.past disk.old))) →
         bytes.now ≡ first_bytes queues header.file (Ours header) carries →
-        OnOk result (length (content (now (D.past disk.new)) (log_of header.file))
+        OnOk result (length (content (now (D.facts.past disk.new)) (log_of header.file))
         ≡ length bytes.now) }
-    ensures others { IsTrue (D.tells disk.old) → (queues : List QueueId)
+    ensures others { IsTrue (D.facts.tells disk.old) → (queues : List QueueId)
         (before : Found (wal queues)) (carries : List LogRecord) →
         Continues (wal queues) top before header.file (Ours header) carries
-        (files_of (now (D.past disk.old))) →
+        (files_of (now (D.facts.past disk.old))) →
         bytes.now ≡ first_bytes queues header.file (Ours header) carries →
-        OnOk result (SameOthers header.file (now (D.past disk.old)) (now (D.past disk.new))) }
-    ensures beside { IsTrue (D.tells disk.old) →
-        StaysBeside (log_of header.file) (D.past disk.old) (D.past disk.new) }
-    ensures may { IsTrue (D.tells disk.old) → (queues : List QueueId)
+        OnOk result (SameOthers header.file (now (D.facts.past disk.old))
+        (now (D.facts.past disk.new))) }
+    ensures beside { IsTrue (D.facts.tells disk.old) →
+        StaysBeside (log_of header.file) (D.facts.past disk.old) (D.facts.past disk.new) }
+    ensures may { IsTrue (D.facts.tells disk.old) → (queues : List QueueId)
         (before : Found (wal queues)) (carries : List LogRecord) →
         Continues (wal queues) top before header.file (Ours header) carries
-        (files_of (now (D.past disk.old))) →
+        (files_of (now (D.facts.past disk.old))) →
         bytes.now ≡ first_bytes queues header.file (Ours header) carries →
-        MayRecover queues (now (D.past disk.new)) }
-    ensures behind { IsTrue (D.tells disk.old) → (queues : List QueueId)
+        MayRecover queues (now (D.facts.past disk.new)) }
+    ensures behind { IsTrue (D.facts.tells disk.old) → (queues : List QueueId)
         (before : Found (wal queues)) (carries : List LogRecord) →
         Continues (wal queues) top before header.file (Ours header) carries
-        (files_of (now (D.past disk.old))) →
+        (files_of (now (D.facts.past disk.old))) →
         bytes.now ≡ first_bytes queues header.file (Ours header) carries →
-        OnOk result (numbers_behind queues header (now (D.past disk.new)) ≡ before.files) }
-    ensures half { IsTrue (D.tells disk.old) → IfErr result (λ e. e.1 ≡ true →
-        IsHalfBegun header.file e.0 (now (D.past disk.new))) }
+        OnOk result (numbers_behind queues header (now (D.facts.past disk.new)) ≡ before.files) }
+    ensures half { IsTrue (D.facts.tells disk.old) → IfErr result (λ e. e.1 ≡ true →
+        IsHalfBegun header.file e.0 (now (D.facts.past disk.new))) }
     ensures failed { IfErr result (λ e. e.0 ≡ DiskFault.Failed → e.1 ≡ true) }
-    ensures want { IsTrue (D.tells disk.old) →
-        IfErr result (λ e. e.1 ≡ false → D.past disk.new ≡ D.past disk.old) }
+    ensures want { IsTrue (D.facts.tells disk.old) →
+        IfErr result (λ e. e.1 ≡ false → D.facts.past disk.new ≡ D.facts.past disk.old) }
     ensures range { IsHeader header }
-    ensures told { D.tells disk.new ≡ D.tells disk.old }
-    ensures cause { HasCause IsBeginCaused (D.faults disk.old) (D.faults disk.new) result }
+    ensures told { D.facts.tells disk.new ≡ D.facts.tells disk.old }
+    ensures cause { HasCause IsBeginCaused
+        (D.facts.faults disk.old) (D.facts.faults disk.new) result }
 {
     the_log_has_a_format();
     let file = FileName {
@@ -109,40 +111,42 @@ pub(crate) fn append_file<D: NodeDisk>(
     header: Header,
     bytes: &[u8],
 ) -> Result<(), DiskFault>
-    ensures stays { IsTrue (D.tells disk.old) → (queues : List QueueId) (batch : List Op) →
-        IsWrittenTo queues header (now (D.past disk.old))
+    ensures stays { IsTrue (D.facts.tells disk.old) → (queues : List QueueId) (batch : List Op) →
+        IsWrittenTo queues header (now (D.facts.past disk.old))
         → IsBatchOf queues header batch bytes.now →
-        MayAdd queues batch (now (D.past disk.old)) →
-        StaysGiving queues batch (D.past disk.old) (D.past disk.new) }
-    ensures log { IsTrue (D.tells disk.old) → (queues : List QueueId) (batch : List Op) →
-        IsWrittenTo queues header (now (D.past disk.old))
+        MayAdd queues batch (now (D.facts.past disk.old)) →
+        StaysGiving queues batch (D.facts.past disk.old) (D.facts.past disk.new) }
+    ensures log { IsTrue (D.facts.tells disk.old) → (queues : List QueueId) (batch : List Op) →
+        IsWrittenTo queues header (now (D.facts.past disk.old))
         → IsBatchOf queues header batch bytes.now →
-        OnOk result (IsWrittenTo queues header (now (D.past disk.new))) }
-    ensures shown { IsTrue (D.tells disk.old) → (queues : List QueueId) (batch : List Op) →
-        IsWrittenTo queues header (now (D.past disk.old))
+        OnOk result (IsWrittenTo queues header (now (D.facts.past disk.new))) }
+    ensures shown { IsTrue (D.facts.tells disk.old) → (queues : List QueueId) (batch : List Op) →
+        IsWrittenTo queues header (now (D.facts.past disk.old))
         → IsBatchOf queues header batch bytes.now →
-        OnOk result (lanes_shown queues (now (D.past disk.new))
-        ≡ replay (wal queues) (op_records batch) (lanes_shown queues (now (D.past disk.old)))) }
-    ensures kept { IsTrue (D.tells disk.old) → (queues : List QueueId) (batch : List Op) →
-        IsWrittenTo queues header (now (D.past disk.old))
+        OnOk result (lanes_shown queues (now (D.facts.past disk.new))
+        ≡ replay (wal queues) (op_records batch)
+        (lanes_shown queues (now (D.facts.past disk.old)))) }
+    ensures kept { IsTrue (D.facts.tells disk.old) → (queues : List QueueId) (batch : List Op) →
+        IsWrittenTo queues header (now (D.facts.past disk.old))
         → IsBatchOf queues header batch bytes.now →
-        OnOk result (lanes_kept queues header (now (D.past disk.new))
-        ≡ lanes_kept queues header (now (D.past disk.old))) }
-    ensures length { IsTrue (D.tells disk.old) → (queues : List QueueId) →
-        IsWrittenTo queues header (now (D.past disk.old)) →
-        OnOk result (length (content (now (D.past disk.new)) (log_of header.file))
-        ≡ length (content (now (D.past disk.old)) (log_of header.file)) + length bytes.now) }
-    ensures others { IsTrue (D.tells disk.old) →
-        OnOk result (SameOthers header.file (now (D.past disk.old)) (now (D.past disk.new))) }
-    ensures beside { IsTrue (D.tells disk.old) →
-        StaysBeside (log_of header.file) (D.past disk.old) (D.past disk.new) }
-    ensures may { IsTrue (D.tells disk.old) → (queues : List QueueId) →
-        IsWrittenTo queues header (now (D.past disk.old)) →
-        MayRecover queues (now (D.past disk.new)) }
-    ensures want { IsTrue (D.tells disk.old) →
-        IfErr result (StaysAtWant (D.past disk.old) (D.past disk.new)) }
-    ensures told { D.tells disk.new ≡ D.tells disk.old }
-    ensures cause { HasCause IsCaused (D.faults disk.old) (D.faults disk.new) result }
+        OnOk result (lanes_kept queues header (now (D.facts.past disk.new))
+        ≡ lanes_kept queues header (now (D.facts.past disk.old))) }
+    ensures length { IsTrue (D.facts.tells disk.old) → (queues : List QueueId) →
+        IsWrittenTo queues header (now (D.facts.past disk.old)) →
+        OnOk result (length (content (now (D.facts.past disk.new)) (log_of header.file))
+        ≡ length (content (now (D.facts.past disk.old)) (log_of header.file)) + length bytes.now) }
+    ensures others { IsTrue (D.facts.tells disk.old) →
+        OnOk result (SameOthers header.file (now (D.facts.past disk.old))
+        (now (D.facts.past disk.new))) }
+    ensures beside { IsTrue (D.facts.tells disk.old) →
+        StaysBeside (log_of header.file) (D.facts.past disk.old) (D.facts.past disk.new) }
+    ensures may { IsTrue (D.facts.tells disk.old) → (queues : List QueueId) →
+        IsWrittenTo queues header (now (D.facts.past disk.old)) →
+        MayRecover queues (now (D.facts.past disk.new)) }
+    ensures want { IsTrue (D.facts.tells disk.old) →
+        IfErr result (StaysAtWant (D.facts.past disk.old) (D.facts.past disk.new)) }
+    ensures told { D.facts.tells disk.new ≡ D.facts.tells disk.old }
+    ensures cause { HasCause IsCaused (D.facts.faults disk.old) (D.facts.faults disk.new) result }
 {
     the_log_has_a_format();
     let file = FileName {
@@ -159,28 +163,28 @@ pub(crate) fn sync_file<D: NodeDisk>(
     header: Header,
     dirty: bool,
 ) -> Result<(), DiskFault>
-    ensures stays { IsTrue (D.tells disk.old) → (queues : List QueueId) →
-        Stays queues (D.past disk.old) (D.past disk.new) }
-    ensures log { IsTrue (D.tells disk.old) → (queues : List QueueId) →
-        IsWrittenTo queues header (now (D.past disk.old)) →
-        (dirty ≡ false → IsSynced queues header (now (D.past disk.old))) →
-        OnOk result (IsWrittenTo queues header (now (D.past disk.new))
-        × IsSynced queues header (now (D.past disk.new))) }
-    ensures shown { IsTrue (D.tells disk.old) →
-        OnOk result (shown_logs (files_of (now (D.past disk.new)))
-        ≡ shown_logs (files_of (now (D.past disk.old)))) }
-    ensures noticed { IsTrue (D.tells disk.old) → (queues : List QueueId) →
-        IsWrittenTo queues header (now (D.past disk.old)) →
-        (dirty ≡ false → IsSynced queues header (now (D.past disk.old))) →
-        OnOk result (MayNotice queues (now (D.past disk.old)) (now (D.past disk.new))) }
-    ensures beside { IsTrue (D.tells disk.old) →
-        StaysBeside (log_of header.file) (D.past disk.old) (D.past disk.new) }
-    ensures may { IsTrue (D.tells disk.old) → (queues : List QueueId) →
-        StillMayRecover queues (D.past disk.old) (D.past disk.new) }
-    ensures want { IsTrue (D.tells disk.old) →
-        IfErr result (StaysAtWant (D.past disk.old) (D.past disk.new)) }
-    ensures told { D.tells disk.new ≡ D.tells disk.old }
-    ensures cause { HasCause IsCaused (D.faults disk.old) (D.faults disk.new) result }
+    ensures stays { IsTrue (D.facts.tells disk.old) → (queues : List QueueId) →
+        Stays queues (D.facts.past disk.old) (D.facts.past disk.new) }
+    ensures log { IsTrue (D.facts.tells disk.old) → (queues : List QueueId) →
+        IsWrittenTo queues header (now (D.facts.past disk.old)) →
+        (dirty ≡ false → IsSynced queues header (now (D.facts.past disk.old))) →
+        OnOk result (IsWrittenTo queues header (now (D.facts.past disk.new))
+        × IsSynced queues header (now (D.facts.past disk.new))) }
+    ensures shown { IsTrue (D.facts.tells disk.old) →
+        OnOk result (shown_logs (files_of (now (D.facts.past disk.new)))
+        ≡ shown_logs (files_of (now (D.facts.past disk.old)))) }
+    ensures noticed { IsTrue (D.facts.tells disk.old) → (queues : List QueueId) →
+        IsWrittenTo queues header (now (D.facts.past disk.old)) →
+        (dirty ≡ false → IsSynced queues header (now (D.facts.past disk.old))) →
+        OnOk result (MayNotice queues (now (D.facts.past disk.old)) (now (D.facts.past disk.new))) }
+    ensures beside { IsTrue (D.facts.tells disk.old) →
+        StaysBeside (log_of header.file) (D.facts.past disk.old) (D.facts.past disk.new) }
+    ensures may { IsTrue (D.facts.tells disk.old) → (queues : List QueueId) →
+        StillMayRecover queues (D.facts.past disk.old) (D.facts.past disk.new) }
+    ensures want { IsTrue (D.facts.tells disk.old) →
+        IfErr result (StaysAtWant (D.facts.past disk.old) (D.facts.past disk.new)) }
+    ensures told { D.facts.tells disk.new ≡ D.facts.tells disk.old }
+    ensures cause { HasCause IsCaused (D.facts.faults disk.old) (D.facts.faults disk.new) result }
 {
     the_log_has_a_format();
     if !dirty {

@@ -74,9 +74,9 @@ pub fn a_sync_counts_what_was_appended()
 /// number or a later one. The log is one that goes on, over a disk that tells its contents, and what stands behind
 /// the synced end of a file is honest.
 pub fn what_counts_as_synced_is_in_every_image<D: NodeDisk>()
-    ensures { (w : Wal D) (i : Remains) (id : QueueId) → IsSound D.tells D.past w →
-        IsTrue (D.tells w.disk) → w.stopped ≡ false → IsImage (now (D.past w.disk)) i →
-        IsHonestImage w.queues.items (now (D.past w.disk)) i → (lanes : Lanes)
+    ensures { (w : Wal D) (i : Remains) (id : QueueId) → IsSound D.facts w →
+        IsTrue (D.facts.tells w.disk) → w.stopped ≡ false → IsImage (now (D.facts.past w.disk)) i →
+        IsHonestImage w.queues.items (now (D.facts.past w.disk)) i → (lanes : Lanes)
         × (lanes_read w.queues.items top i ≡ Some lanes)
         × (synced_in w.marks id ≤ (unwrap_or (lanes id.0) new_state).op) }
 {
@@ -86,11 +86,12 @@ pub fn what_counts_as_synced_is_in_every_image<D: NodeDisk>()
 /// A log file that isn't read may be removed: the log stays sound, whether the removal answered Ok or failed, and
 /// may have been done.
 pub fn a_file_that_is_not_read_may_go<D: NodeDisk>()
-    ensures { (w : Wal D) (d : D) (m : ℕ) → IsSound D.tells D.past w →
-        D.tells d ≡ D.tells w.disk →
-        (IsTrue (D.tells w.disk) → IsOutside w.queues.items w.header (now (D.past w.disk)) m
-        × IsRemoving (now (D.past w.disk)) (log_of m) (now (D.past d))) →
-        IsSound D.tells D.past (record w { disk = d }) }
+    ensures { (w : Wal D) (d : D) (m : ℕ) → IsSound D.facts w →
+        D.facts.tells d ≡ D.facts.tells w.disk →
+        (IsTrue (D.facts.tells w.disk) → IsOutside w.queues.items w.header
+        (now (D.facts.past w.disk)) m
+        × IsRemoving (now (D.facts.past w.disk)) (log_of m) (now (D.facts.past d))) →
+        IsSound D.facts (record w { disk = d }) }
 {
     the_log_has_a_format();
 }
@@ -181,9 +182,10 @@ pub fn calls_keep_what_was_promised<D: NodeDisk>()
 /// What is done to files beside the log's changes nothing of the log: it stays sound, and what was promised
 /// is promised.
 pub fn other_files_keep_the_log_sound<D: NodeDisk>()
-    ensures sound { (w : Wal D) (d : D) → IsSound D.tells D.past w →
-        D.tells d ≡ D.tells w.disk → SameLogs (now (D.past w.disk)) (now (D.past d)) →
-        IsSound D.tells D.past (record w { disk = d }) }
+    ensures sound { (w : Wal D) (d : D) → IsSound D.facts w →
+        D.facts.tells d ≡ D.facts.tells w.disk → SameLogs (now (D.facts.past w.disk))
+        (now (D.facts.past d)) →
+        IsSound D.facts (record w { disk = d }) }
     ensures promise { (queues : List QueueId) (noticed given : List Op) (d e : Disk) →
         SameLogs d e → KeepsPromise queues top noticed given d →
         KeepsPromise queues top noticed given e }

@@ -37,38 +37,41 @@ impl<D: NodeDisk> Wal<D> {
     /// the log is as it was. It is stopped only where the disk failed, or had no memory to sync the file that
     /// was begun.
     pub fn roll(&mut self, alloc: Global) -> Result<u64, WalFault>
-        requires sound { IsSound D.tells D.past self.old }
+        requires sound { IsSound D.facts self.old }
         requires synced { self.old.dirty ≡ false }
-        ensures sound { IsSound D.tells D.past self.new }
+        ensures sound { IsSound D.facts self.new }
         ensures number { IfOk result (λ number. number ≡ self.old.numbers.log + 1) }
         ensures ok { OnOk result (IsRolled self.old self.new) }
-        ensures stays { IsTrue (D.tells self.old.disk) →
-            Stays self.old.queues.items (D.past self.old.disk) (D.past self.new.disk) }
-        ensures holds { IsTrue (D.tells self.old.disk) → OnOk result (StillHolds
-            self.old.queues.items (now (D.past self.old.disk)) (now (D.past self.new.disk))) }
+        ensures stays { IsTrue (D.facts.tells self.old.disk) →
+            Stays self.old.queues.items (D.facts.past self.old.disk) (D.facts.past self.new.disk) }
+        ensures holds { IsTrue (D.facts.tells self.old.disk) → OnOk result (StillHolds
+            self.old.queues.items (now (D.facts.past self.old.disk))
+            (now (D.facts.past self.new.disk))) }
         ensures queues { self.new.queues ≡ self.old.queues }
         ensures ahead { carries_ahead self.new ≡ carries_ahead self.old }
         ensures err { OnErr result (self.new ≡ record self.old {
           disk = self.new.disk;
           stopped = self.new.stopped;
         }) }
-        ensures stops { IsTrue (D.tells self.old.disk) → StopsAtRoll (self.old.numbers.log + 1)
-            self.old.stopped result self.new.stopped (now (D.past self.new.disk)) }
+        ensures stops { IsTrue (D.facts.tells self.old.disk) →
+            StopsAtRoll (self.old.numbers.log + 1)
+            self.old.stopped result self.new.stopped (now (D.facts.past self.new.disk)) }
         ensures failed { result ≡ Err WalFault.Disk → self.new.stopped ≡ true }
-        ensures moments { IsTrue (D.tells self.old.disk) → OnErr result (self.new.stopped ≡ false →
-            D.past self.new.disk ≡ D.past self.old.disk) }
+        ensures moments { IsTrue (D.facts.tells self.old.disk) →
+            OnErr result (self.new.stopped ≡ false →
+            D.facts.past self.new.disk ≡ D.facts.past self.old.disk) }
         ensures stopped { self.old.stopped ≡ true →
             (self.new ≡ self.old) × (result ≡ Err WalFault.Stopped) }
         ensures spent { self.old.stopped ≡ false → NUMBER_END ≤ self.old.numbers.log →
             result ≡ Err (WalFault.Memory (Memory.Spent self.old.numbers.log)) }
-        ensures beside { IsTrue (D.tells self.old.disk) →
+        ensures beside { IsTrue (D.facts.tells self.old.disk) →
             StaysBeside (log_of (self.old.numbers.log + 1))
-            (D.past self.old.disk) (D.past self.new.disk) }
-        ensures may { IsTrue (D.tells self.old.disk) → StillMayRecover self.old.queues.items
-            (D.past self.old.disk) (D.past self.new.disk) }
-        ensures told { D.tells self.new.disk ≡ D.tells self.old.disk }
+            (D.facts.past self.old.disk) (D.facts.past self.new.disk) }
+        ensures may { IsTrue (D.facts.tells self.old.disk) → StillMayRecover self.old.queues.items
+            (D.facts.past self.old.disk) (D.facts.past self.new.disk) }
+        ensures told { D.facts.tells self.new.disk ≡ D.facts.tells self.old.disk }
         ensures cause { HasCause (IsRollCaused self.old.stopped self.old.numbers.log)
-            (D.faults self.old.disk) (D.faults self.new.disk) result }
+            (D.facts.faults self.old.disk) (D.facts.faults self.new.disk) result }
     {
         carries_restate();
         the_log_has_a_format();
@@ -109,8 +112,8 @@ impl<D: NodeDisk> Wal<D> {
     /// above all that the log has given or begun since. `Spent` comes exactly where the greatest of these
     /// is at its end.
     pub fn fresh(&mut self, kind: FileKind) -> Result<u64, Memory>
-        requires { IsSound D.tells D.past self.old }
-        ensures sound { IsSound D.tells D.past self.new }
+        requires { IsSound D.facts self.old }
+        ensures sound { IsSound D.facts self.new }
         ensures number { IfOk result (λ number. number ≡ number_of kind self.old.numbers + 1) }
         ensures ok { OnOk result
             (self.new ≡ record self.old { numbers = raise kind self.old.numbers }) }

@@ -37,38 +37,43 @@ impl<D: NodeDisk> Wal<D> {
     /// behind it. A crash may bring it back, and it isn't read then either. After an error the log is as it was,
     /// and the file may be gone; the log is stopped only where the disk failed.
     pub fn remove_log(&mut self, alloc: Global, number: u64) -> Result<(), WalFault>
-        requires sound { IsSound D.tells D.past self.old }
-        requires outside { IsTrue (D.tells self.old.disk) → self.old.stopped ≡ false → IsOutside
-            self.old.queues.items self.old.header (now (D.past self.old.disk)) number }
-        ensures sound { IsSound D.tells D.past self.new }
-        ensures ok { IsTrue (D.tells self.old.disk) → OnOk result
-            (now (D.past self.new.disk) ≡ remove (now (D.past self.old.disk)) (log_of number)) }
-        ensures removes { IsTrue (D.tells self.old.disk) →
-            Adds (IsRemoving (now (D.past self.old.disk)) (log_of number))
-            (D.past self.old.disk) (D.past self.new.disk) }
+        requires sound { IsSound D.facts self.old }
+        requires outside { IsTrue (D.facts.tells self.old.disk) →
+            self.old.stopped ≡ false → IsOutside
+            self.old.queues.items self.old.header (now (D.facts.past self.old.disk)) number }
+        ensures sound { IsSound D.facts self.new }
+        ensures ok { IsTrue (D.facts.tells self.old.disk) → OnOk result
+            (now (D.facts.past self.new.disk) ≡ remove (now (D.facts.past self.old.disk))
+            (log_of number)) }
+        ensures removes { IsTrue (D.facts.tells self.old.disk) →
+            Adds (IsRemoving (now (D.facts.past self.old.disk)) (log_of number))
+            (D.facts.past self.old.disk) (D.facts.past self.new.disk) }
         ensures same { self.new ≡ record self.old {
           disk = self.new.disk;
           stopped = self.new.stopped;
         } }
-        ensures outside { IsTrue (D.tells self.old.disk) → self.old.stopped ≡ false → (m : ℕ) →
-            IsOutside self.old.queues.items self.old.header (now (D.past self.old.disk)) m →
-            IsOutside self.old.queues.items self.old.header (now (D.past self.new.disk)) m }
-        ensures stays { IsTrue (D.tells self.old.disk) →
-            Stays self.old.queues.items (D.past self.old.disk) (D.past self.new.disk) }
-        ensures holds { IsTrue (D.tells self.old.disk) → OnOk result (StillHolds
-            self.old.queues.items (now (D.past self.old.disk)) (now (D.past self.new.disk))) }
-        ensures may { IsTrue (D.tells self.old.disk) → StillMayRecover self.old.queues.items
-            (D.past self.old.disk) (D.past self.new.disk) }
-        ensures beside { IsTrue (D.tells self.old.disk) → StaysBeside (log_of number)
-            (D.past self.old.disk) (D.past self.new.disk) }
+        ensures outside { IsTrue (D.facts.tells self.old.disk) →
+            self.old.stopped ≡ false → (m : ℕ) →
+            IsOutside self.old.queues.items self.old.header (now (D.facts.past self.old.disk)) m →
+            IsOutside self.old.queues.items self.old.header (now (D.facts.past self.new.disk)) m }
+        ensures stays { IsTrue (D.facts.tells self.old.disk) →
+            Stays self.old.queues.items (D.facts.past self.old.disk) (D.facts.past self.new.disk) }
+        ensures holds { IsTrue (D.facts.tells self.old.disk) → OnOk result (StillHolds
+            self.old.queues.items (now (D.facts.past self.old.disk))
+            (now (D.facts.past self.new.disk))) }
+        ensures may { IsTrue (D.facts.tells self.old.disk) → StillMayRecover self.old.queues.items
+            (D.facts.past self.old.disk) (D.facts.past self.new.disk) }
+        ensures beside { IsTrue (D.facts.tells self.old.disk) → StaysBeside (log_of number)
+            (D.facts.past self.old.disk) (D.facts.past self.new.disk) }
         ensures stops { self.new.stopped ≡ stops_at self.old.stopped result }
-        ensures moments { IsTrue (D.tells self.old.disk) → OnErr result (self.new.stopped ≡ false →
-            D.past self.new.disk ≡ D.past self.old.disk) }
+        ensures moments { IsTrue (D.facts.tells self.old.disk) →
+            OnErr result (self.new.stopped ≡ false →
+            D.facts.past self.new.disk ≡ D.facts.past self.old.disk) }
         ensures stopped { self.old.stopped ≡ true →
             (self.new ≡ self.old) × (result ≡ Err WalFault.Stopped) }
-        ensures told { D.tells self.new.disk ≡ D.tells self.old.disk }
+        ensures told { D.facts.tells self.new.disk ≡ D.facts.tells self.old.disk }
         ensures cause { HasCause (IsCaused self.old.stopped)
-            (D.faults self.old.disk) (D.faults self.new.disk) result }
+            (D.facts.faults self.old.disk) (D.facts.faults self.new.disk) result }
     {
         the_log_has_a_format();
         if self.stopped {

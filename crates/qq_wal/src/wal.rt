@@ -85,26 +85,27 @@ impl<D: NodeDisk> Wal<D> {
     ) -> Result<Wal<D>, (WalFault, D)>
         requires carries { All IsCarry carries.now }
         requires number { greatest_number Log names.now < header.file }
-        requires goes_on { IsTrue (D.tells disk) →
-            MayBegin queues.items header carries.now names.now (now (D.past disk)) }
-        ensures sound { IfOk result (λ wal. IsSound D.tells D.past wal) }
+        requires goes_on { IsTrue (D.facts.tells disk) →
+            MayBegin queues.items header carries.now names.now (now (D.facts.past disk)) }
+        ensures sound { IfOk result (λ wal. IsSound D.facts wal) }
         ensures ok { IfOk result (λ wal.
             IsBegun queues header carries.now names.now (ranges_in ranges.now) log_bytes wal) }
-        ensures stays { IsTrue (D.tells disk) →
-            Stays queues.items (D.past disk) (D.past (disk_of result)) }
-        ensures holds { IsTrue (D.tells disk) → OnOk result (
-            StillHolds queues.items (now (D.past disk)) (now (D.past (disk_of result)))) }
-        ensures beside { IsTrue (D.tells disk) → StaysBeside (log_of header.file)
-            (D.past disk) (D.past (disk_of result)) }
-        ensures may { IsTrue (D.tells disk) →
-            StillMayRecover queues.items (D.past disk) (D.past (disk_of result)) }
-        ensures behind { IsTrue (D.tells disk) → OnOk result (
-            numbers_behind queues.items header (now (D.past (disk_of result)))
-            ≡ numbers_read queues.items (now (D.past disk))) }
-        ensures told { D.tells (disk_of result) ≡ D.tells disk }
-        ensures later { D.faults disk ≤ D.faults (disk_of result) }
+        ensures stays { IsTrue (D.facts.tells disk) →
+            Stays queues.items (D.facts.past disk) (D.facts.past (disk_of result)) }
+        ensures holds { IsTrue (D.facts.tells disk) → OnOk result (
+            StillHolds queues.items (now (D.facts.past disk))
+            (now (D.facts.past (disk_of result)))) }
+        ensures beside { IsTrue (D.facts.tells disk) → StaysBeside (log_of header.file)
+            (D.facts.past disk) (D.facts.past (disk_of result)) }
+        ensures may { IsTrue (D.facts.tells disk) →
+            StillMayRecover queues.items (D.facts.past disk) (D.facts.past (disk_of result)) }
+        ensures behind { IsTrue (D.facts.tells disk) → OnOk result (
+            numbers_behind queues.items header (now (D.facts.past (disk_of result)))
+            ≡ numbers_read queues.items (now (D.facts.past disk))) }
+        ensures told { D.facts.tells (disk_of result) ≡ D.facts.tells disk }
+        ensures later { D.facts.faults disk ≤ D.facts.faults (disk_of result) }
         ensures cause { IfErr result (λ e.
-            IsCaused false (D.faults disk) (D.faults (disk_of result)) e.0) }
+            IsCaused false (D.facts.faults disk) (D.facts.faults (disk_of result)) e.0) }
     {
         carries_restate();
         the_log_has_a_format();
@@ -164,8 +165,8 @@ impl<D: NodeDisk> Wal<D> {
     pub fn gather(&mut self, op: Op) -> Result<(), (WalFault, Op)>
         requires takes { MayGather op }
         requires goes_on { GoesOn self.old.queues.items (carries_ahead self.old) op }
-        requires sound { IsSound D.tells D.past self.old }
-        ensures sound { IsSound D.tells D.past self.new }
+        requires sound { IsSound D.facts self.old }
+        ensures sound { IsSound D.facts self.new }
         ensures ok { OnOk result (
             self.new.waiting.items ≡ self.old.waiting.items ++ OpRecord op ∷ []) }
         ensures ahead { OnOk result
@@ -195,35 +196,39 @@ impl<D: NodeDisk> Wal<D> {
     /// comes only where a batch more could make the file longer than a number of 64 bits tells. After an error
     /// the log is as it was, and it is stopped only where the disk failed.
     pub fn append_batch(&mut self, alloc: Global) -> Result<u64, WalFault>
-        requires { IsSound D.tells D.past self.old }
-        ensures sound { IsSound D.tells D.past self.new }
+        requires { IsSound D.facts self.old }
+        ensures sound { IsSound D.facts self.new }
         ensures batch { IfOk result (λ count. Appends count self.old self.new) }
         ensures ahead { carries_ahead self.new ≡ carries_ahead self.old }
-        ensures stays { IsTrue (D.tells self.old.disk) → self.old.stopped ≡ false →
+        ensures stays { IsTrue (D.facts.tells self.old.disk) → self.old.stopped ≡ false →
             StaysAppending self.old.queues.items self.old.waiting.items
-            (D.past self.old.disk) (D.past self.new.disk) }
-        ensures holds { IsTrue (D.tells self.old.disk) → IfOk result (λ count. (batch : List Op) →
+            (D.facts.past self.old.disk) (D.facts.past self.new.disk) }
+        ensures holds { IsTrue (D.facts.tells self.old.disk) →
+            IfOk result (λ count. (batch : List Op) →
             op_records batch ≡ take count self.old.waiting.items →
-            StaysGiving self.old.queues.items batch (D.past self.old.disk) (D.past self.new.disk)
+            StaysGiving self.old.queues.items batch
+            (D.facts.past self.old.disk) (D.facts.past self.new.disk)
             × HoldsAlso self.old.queues.items batch
-            (now (D.past self.old.disk)) (now (D.past self.new.disk))) }
+            (now (D.facts.past self.old.disk)) (now (D.facts.past self.new.disk))) }
         ensures err { OnErr result (self.new ≡ record self.old {
           disk = self.new.disk;
           stopped = self.new.stopped;
         }) }
         ensures stops { self.new.stopped ≡ stops_at self.old.stopped result }
-        ensures moments { IsTrue (D.tells self.old.disk) → OnErr result (self.new.stopped ≡ false →
-            D.past self.new.disk ≡ D.past self.old.disk) }
+        ensures moments { IsTrue (D.facts.tells self.old.disk) →
+            OnErr result (self.new.stopped ≡ false →
+            D.facts.past self.new.disk ≡ D.facts.past self.old.disk) }
         ensures stopped { self.old.stopped ≡ true →
             (self.new ≡ self.old) × (result ≡ Err WalFault.Stopped) }
         ensures file { SameFile self.old self.new }
-        ensures beside { IsTrue (D.tells self.old.disk) → StaysBeside (log_of self.old.header.file)
-            (D.past self.old.disk) (D.past self.new.disk) }
-        ensures may { IsTrue (D.tells self.old.disk) → StillMayRecover self.old.queues.items
-            (D.past self.old.disk) (D.past self.new.disk) }
-        ensures told { D.tells self.new.disk ≡ D.tells self.old.disk }
+        ensures beside { IsTrue (D.facts.tells self.old.disk) →
+            StaysBeside (log_of self.old.header.file)
+            (D.facts.past self.old.disk) (D.facts.past self.new.disk) }
+        ensures may { IsTrue (D.facts.tells self.old.disk) → StillMayRecover self.old.queues.items
+            (D.facts.past self.old.disk) (D.facts.past self.new.disk) }
+        ensures told { D.facts.tells self.new.disk ≡ D.facts.tells self.old.disk }
         ensures cause { HasCause (IsAppendCaused self.old.stopped self.old.size)
-            (D.faults self.old.disk) (D.faults self.new.disk) result }
+            (D.facts.faults self.old.disk) (D.facts.faults self.new.disk) result }
     {
         if self.stopped {
             return Err(WalFault::Stopped);
@@ -254,21 +259,23 @@ impl<D: NodeDisk> Wal<D> {
     /// order of the queues. Where nothing was appended it makes no call of the disk. After an error nothing
     /// counts as synced that didn't before, and the log is stopped only where the disk failed.
     pub fn sync_batch(&mut self, alloc: Global) -> Result<Vec<Notice>, WalFault>
-        requires { IsSound D.tells D.past self.old }
-        ensures sound { IsSound D.tells D.past self.new }
+        requires { IsSound D.facts self.old }
+        ensures sound { IsSound D.facts self.new }
         ensures notices { IfOk result (λ notices. notices.items ≡ notices_in self.old.marks) }
-        ensures names_synced { IsTrue (D.tells self.old.disk) → IfOk result (λ notices.
+        ensures names_synced { IsTrue (D.facts.tells self.old.disk) → IfOk result (λ notices.
             All (λ n. synced_in self.new.marks n.queue ≡ n.op) notices.items) }
         ensures marks { OnOk result (self.new.marks ≡ map sync_mark self.old.marks) }
         ensures ranges { self.new.ranges ≡ self.old.ranges }
         ensures synced { OnOk result (self.new.dirty ≡ false) }
         ensures going { OnOk result (self.new.stopped ≡ false) }
-        ensures stays { IsTrue (D.tells self.old.disk) →
-            Stays self.old.queues.items (D.past self.old.disk) (D.past self.new.disk) }
-        ensures noticed { IsTrue (D.tells self.old.disk) → OnOk result (MayNotice
-            self.old.queues.items (now (D.past self.old.disk)) (now (D.past self.new.disk))) }
-        ensures holds { IsTrue (D.tells self.old.disk) → OnOk result (StillHolds
-            self.old.queues.items (now (D.past self.old.disk)) (now (D.past self.new.disk))) }
+        ensures stays { IsTrue (D.facts.tells self.old.disk) →
+            Stays self.old.queues.items (D.facts.past self.old.disk) (D.facts.past self.new.disk) }
+        ensures noticed { IsTrue (D.facts.tells self.old.disk) → OnOk result (MayNotice
+            self.old.queues.items (now (D.facts.past self.old.disk))
+            (now (D.facts.past self.new.disk))) }
+        ensures holds { IsTrue (D.facts.tells self.old.disk) → OnOk result (StillHolds
+            self.old.queues.items (now (D.facts.past self.old.disk))
+            (now (D.facts.past self.new.disk))) }
         ensures waiting { self.new.waiting ≡ self.old.waiting }
         ensures ahead { carries_ahead self.new ≡ carries_ahead self.old }
         ensures err { OnErr result (self.new ≡ record self.old {
@@ -276,18 +283,20 @@ impl<D: NodeDisk> Wal<D> {
           stopped = self.new.stopped;
         }) }
         ensures stops { self.new.stopped ≡ stops_at self.old.stopped result }
-        ensures moments { IsTrue (D.tells self.old.disk) → OnErr result (self.new.stopped ≡ false →
-            D.past self.new.disk ≡ D.past self.old.disk) }
+        ensures moments { IsTrue (D.facts.tells self.old.disk) →
+            OnErr result (self.new.stopped ≡ false →
+            D.facts.past self.new.disk ≡ D.facts.past self.old.disk) }
         ensures stopped { self.old.stopped ≡ true →
             (self.new ≡ self.old) × (result ≡ Err WalFault.Stopped) }
         ensures file { SameFile self.old self.new }
-        ensures beside { IsTrue (D.tells self.old.disk) → StaysBeside (log_of self.old.header.file)
-            (D.past self.old.disk) (D.past self.new.disk) }
-        ensures may { IsTrue (D.tells self.old.disk) → StillMayRecover self.old.queues.items
-            (D.past self.old.disk) (D.past self.new.disk) }
-        ensures told { D.tells self.new.disk ≡ D.tells self.old.disk }
+        ensures beside { IsTrue (D.facts.tells self.old.disk) →
+            StaysBeside (log_of self.old.header.file)
+            (D.facts.past self.old.disk) (D.facts.past self.new.disk) }
+        ensures may { IsTrue (D.facts.tells self.old.disk) → StillMayRecover self.old.queues.items
+            (D.facts.past self.old.disk) (D.facts.past self.new.disk) }
+        ensures told { D.facts.tells self.new.disk ≡ D.facts.tells self.old.disk }
         ensures cause { HasCause (IsCaused self.old.stopped)
-            (D.faults self.old.disk) (D.faults self.new.disk) result }
+            (D.facts.faults self.old.disk) (D.facts.faults self.new.disk) result }
     {
         the_log_has_a_format();
         if self.stopped {

@@ -12,10 +12,8 @@ give-requires g c =
     let s = c.args.setup.now in
     let named = rw c.in-Client.is at c.requires.holds.1.2 in
     record {
-      serve = can-serve c.requires.holds.0 disk.tells disk.past disk.faults s c.args.nodes.now c.requires.holds.1.0
-          c.requires.holds.1.1;
-      queue = queue-there c.requires.holds.0 disk.tells disk.past disk.faults s c.requires.holds.1.0 c.args.nodes.now
-          c.in-Client.queue
+      serve = can-serve c.requires.holds.0 disk.facts s c.args.nodes.now c.requires.holds.1.0 c.requires.holds.1.1;
+      queue = queue-there c.requires.holds.0 disk.facts s c.requires.holds.1.0 c.args.nodes.now c.in-Client.queue
           c.requires.holds.1.1 named.1;
       session = named.0.1.0;
       range = body-stamps c.in-Client.body named.2;
@@ -27,10 +25,10 @@ returns-in-Client g c =
     let disk = g.D.NodeDisk in
     let s = c.args.setup.now in
     rw c.in-Client.is (record {
-      ok = λ given. all-served given disk.tells disk.past disk.faults s
-          (lines.Client c.in-Client.session c.in-Client.queue c.in-Client.body) c.give.result c.args.nodes.now
+      ok = λ given. all-served given disk.facts s (lines.Client c.in-Client.session c.in-Client.queue c.in-Client.body)
+          c.give.result c.args.nodes.now
           c.give.new.self c.args.told.now c.give.new.told c.give.ensures.ok;
-      cause = λ given. all-given-up given disk.tells disk.past disk.faults s
+      cause = λ given. all-given-up given disk.facts s
           (lines.Client c.in-Client.session c.in-Client.queue c.in-Client.body) c.give.result c.args.nodes.now
           c.give.new.self c.give.ensures.err;
     })
@@ -41,10 +39,8 @@ attach-requires g c =
     let s = c.args.setup.now in
     let named = rw c.in-Attach.is at c.requires.holds.1.2 in
     record {
-      serve = can-serve c.requires.holds.0 disk.tells disk.past disk.faults s c.args.nodes.now c.requires.holds.1.0
-          c.requires.holds.1.1;
-      queue = queue-there c.requires.holds.0 disk.tells disk.past disk.faults s c.requires.holds.1.0 c.args.nodes.now
-          c.in-Attach.queue
+      serve = can-serve c.requires.holds.0 disk.facts s c.args.nodes.now c.requires.holds.1.0 c.requires.holds.1.1;
+      queue = queue-there c.requires.holds.0 disk.facts s c.requires.holds.1.0 c.args.nodes.now c.in-Attach.queue
           c.requires.holds.1.1 named.1;
     }
 
@@ -54,10 +50,10 @@ returns-in-Attach g c =
     let disk = g.D.NodeDisk in
     let s = c.args.setup.now in
     rw c.in-Attach.is (record {
-      ok = λ given. all-served given disk.tells disk.past disk.faults s
+      ok = λ given. all-served given disk.facts s
           (lines.Attach c.in-Attach.session c.in-Attach.queue c.in-Attach.tag c.in-Attach.taker) c.attach.result
           c.args.nodes.now c.attach.new.self c.args.told.now c.attach.new.told c.attach.ensures.ok;
-      cause = λ given. all-given-up given disk.tells disk.past disk.faults s
+      cause = λ given. all-given-up given disk.facts s
           (lines.Attach c.in-Attach.session c.in-Attach.queue c.in-Attach.tag c.in-Attach.taker) c.attach.result
           c.args.nodes.now c.attach.new.self c.attach.ensures.err;
     })
@@ -68,8 +64,7 @@ end-requires g c =
     let s = c.args.setup.now in
     let named = rw c.in-End.is at c.requires.holds.1.2 in
     record {
-      serve = can-serve c.requires.holds.0 disk.tells disk.past disk.faults s c.args.nodes.now c.requires.holds.1.0
-          c.requires.holds.1.1;
+      serve = can-serve c.requires.holds.0 disk.facts s c.args.nodes.now c.requires.holds.1.0 c.requires.holds.1.1;
       session = named.1.0;
     }
 
@@ -79,11 +74,9 @@ returns-in-End g c =
     let disk = g.D.NodeDisk in
     let s = c.args.setup.now in
     rw c.in-End.is (record {
-      ok = λ given. all-served given disk.tells disk.past disk.faults s (lines.End c.in-End.session) c.end.result
-          c.args.nodes.now
+      ok = λ given. all-served given disk.facts s (lines.End c.in-End.session) c.end.result c.args.nodes.now
           c.end.new.self c.args.told.now c.end.new.told c.end.ensures.ok;
-      cause = λ given. all-given-up given disk.tells disk.past disk.faults s (lines.End c.in-End.session) c.end.result
-          c.args.nodes.now
+      cause = λ given. all-given-up given disk.facts s (lines.End c.in-End.session) c.end.result c.args.nodes.now
           c.end.new.self c.end.ensures.err;
     })
 
@@ -91,8 +84,7 @@ pub resend-requires : goal.resend-requires
 resend-requires g c =
     let disk = g.D.NodeDisk in
     let s = c.args.setup.now in
-    can-serve c.requires.holds.0 disk.tells disk.past disk.faults s c.args.nodes.now c.requires.holds.1.0
-    c.requires.holds.1.1
+    can-serve c.requires.holds.0 disk.facts s c.args.nodes.now c.requires.holds.1.0 c.requires.holds.1.1
 
 pub returns-in-Resend : goal.returns-in-Resend
 unfolding IsLine
@@ -100,11 +92,9 @@ returns-in-Resend g c =
     let disk = g.D.NodeDisk in
     let s = c.args.setup.now in
     rw c.in-Resend.is (record {
-      ok = λ given. all-served given disk.tells disk.past disk.faults s (lines.Resend c.in-Resend.session)
-          c.resend.result
+      ok = λ given. all-served given disk.facts s (lines.Resend c.in-Resend.session) c.resend.result
           c.args.nodes.now c.resend.new.self c.args.told.now c.resend.new.told c.resend.ensures.ok;
-      cause = λ given. all-given-up given disk.tells disk.past disk.faults s (lines.Resend c.in-Resend.session)
-          c.resend.result
+      cause = λ given. all-given-up given disk.facts s (lines.Resend c.in-Resend.session) c.resend.result
           c.args.nodes.now c.resend.new.self c.resend.ensures.err;
     })
 
@@ -114,13 +104,11 @@ returns-in-Mute g c =
     let disk = g.D.NodeDisk in
     let s = c.args.setup.now in
     rw c.in-Mute.is (record {
-      ok = λ given. all-served given disk.tells disk.past disk.faults s (lines.Mute c.in-Mute.session c.in-Mute.muted)
-          c.mute.result
+      ok = λ given. all-served given disk.facts s (lines.Mute c.in-Mute.session c.in-Mute.muted) c.mute.result
           c.args.nodes.now c.mute.new.self c.args.told.now c.args.told.now
           (on_ok_weaker c.mute.result (λ so. so c.args.told.now) c.mute.ensures.ok);
-      cause = λ given. all-given-up given disk.tells disk.past disk.faults s
-          (lines.Mute c.in-Mute.session c.in-Mute.muted)
-          c.mute.result c.args.nodes.now c.mute.new.self c.mute.ensures.err;
+      cause = λ given. all-given-up given disk.facts s (lines.Mute c.in-Mute.session c.in-Mute.muted) c.mute.result
+          c.args.nodes.now c.mute.new.self c.mute.ensures.err;
     })
 
 pub returns-in-Pace : goal.returns-in-Pace
@@ -129,8 +117,8 @@ returns-in-Pace g c =
     let disk = g.D.NodeDisk in
     let s = c.args.setup.now in
     rw c.in-Pace.is (record {
-      ok = λ given. just-served given disk.tells disk.past disk.faults s (lines.Pace c.in-Pace.auto) c.args.nodes.now
-          c.set_auto.new.self c.args.told.now c.args.told.now (c.set_auto.ensures c.args.told.now);
+      ok = λ given. just-served given disk.facts s (lines.Pace c.in-Pace.auto) c.args.nodes.now c.set_auto.new.self
+          c.args.told.now c.args.told.now (c.set_auto.ensures c.args.told.now);
       cause = λ given run before after h. tt;
     })
 
@@ -138,8 +126,7 @@ pub pump-requires : goal.pump-requires
 pump-requires g c =
     let disk = g.D.NodeDisk in
     let s = c.args.setup.now in
-    can-serve c.requires.holds.0 disk.tells disk.past disk.faults s c.args.nodes.now c.requires.holds.1.0
-    c.requires.holds.1.1
+    can-serve c.requires.holds.0 disk.facts s c.args.nodes.now c.requires.holds.1.0 c.requires.holds.1.1
 
 pub returns-in-Pump : goal.returns-in-Pump
 unfolding IsLine
@@ -147,11 +134,9 @@ returns-in-Pump g c =
     let disk = g.D.NodeDisk in
     let s = c.args.setup.now in
     rw c.in-Pump.is (record {
-      ok = λ given. all-served given disk.tells disk.past disk.faults s lines.Pump c.pump.result c.args.nodes.now
-          c.pump.new.self
+      ok = λ given. all-served given disk.facts s lines.Pump c.pump.result c.args.nodes.now c.pump.new.self
           c.args.told.now c.pump.new.told c.pump.ensures.ok;
-      cause = λ given. all-given-up given disk.tells disk.past disk.faults s lines.Pump c.pump.result c.args.nodes.now
-          c.pump.new.self
+      cause = λ given. all-given-up given disk.facts s lines.Pump c.pump.result c.args.nodes.now c.pump.new.self
           c.pump.ensures.err;
     })
 
@@ -161,10 +146,8 @@ write-requires g c =
     let s = c.args.setup.now in
     let named = rw c.in-Write.is at c.requires.holds.1.2 in
     record {
-      serve = can-serve c.requires.holds.0 disk.tells disk.past disk.faults s c.args.nodes.now c.requires.holds.1.0
-          c.requires.holds.1.1;
-      node = node-there c.requires.holds.0 disk.tells disk.past disk.faults s c.requires.holds.1.0 c.args.nodes.now
-          c.in-Write.node
+      serve = can-serve c.requires.holds.0 disk.facts s c.args.nodes.now c.requires.holds.1.0 c.requires.holds.1.1;
+      node = node-there c.requires.holds.0 disk.facts s c.requires.holds.1.0 c.args.nodes.now c.in-Write.node
           c.requires.holds.1.1 named;
     }
 
@@ -174,11 +157,9 @@ returns-in-Write g c =
     let disk = g.D.NodeDisk in
     let s = c.args.setup.now in
     rw c.in-Write.is (record {
-      ok = λ given. all-served given disk.tells disk.past disk.faults s (lines.Write c.in-Write.node) c.write.result
-          c.args.nodes.now
+      ok = λ given. all-served given disk.facts s (lines.Write c.in-Write.node) c.write.result c.args.nodes.now
           c.write.new.self c.args.told.now c.write.new.told c.write.ensures.ok;
-      cause = λ given. all-given-up given disk.tells disk.past disk.faults s (lines.Write c.in-Write.node)
-          c.write.result
+      cause = λ given. all-given-up given disk.facts s (lines.Write c.in-Write.node) c.write.result
           c.args.nodes.now c.write.new.self c.write.ensures.err;
     })
 
@@ -188,10 +169,8 @@ sync-requires g c =
     let s = c.args.setup.now in
     let named = rw c.in-Sync.is at c.requires.holds.1.2 in
     record {
-      serve = can-serve c.requires.holds.0 disk.tells disk.past disk.faults s c.args.nodes.now c.requires.holds.1.0
-          c.requires.holds.1.1;
-      node = node-there c.requires.holds.0 disk.tells disk.past disk.faults s c.requires.holds.1.0 c.args.nodes.now
-          c.in-Sync.node
+      serve = can-serve c.requires.holds.0 disk.facts s c.args.nodes.now c.requires.holds.1.0 c.requires.holds.1.1;
+      node = node-there c.requires.holds.0 disk.facts s c.requires.holds.1.0 c.args.nodes.now c.in-Sync.node
           c.requires.holds.1.1 named;
     }
 
@@ -201,11 +180,9 @@ returns-in-Sync g c =
     let disk = g.D.NodeDisk in
     let s = c.args.setup.now in
     rw c.in-Sync.is (record {
-      ok = λ given. all-served given disk.tells disk.past disk.faults s (lines.Sync c.in-Sync.node) c.sync.result
-          c.args.nodes.now
+      ok = λ given. all-served given disk.facts s (lines.Sync c.in-Sync.node) c.sync.result c.args.nodes.now
           c.sync.new.self c.args.told.now c.sync.new.told c.sync.ensures.ok;
-      cause = λ given. all-given-up given disk.tells disk.past disk.faults s (lines.Sync c.in-Sync.node) c.sync.result
-          c.args.nodes.now
+      cause = λ given. all-given-up given disk.facts s (lines.Sync c.in-Sync.node) c.sync.result c.args.nodes.now
           c.sync.new.self c.sync.ensures.err;
     })
 
@@ -215,13 +192,10 @@ notice-requires g c =
     let s = c.args.setup.now in
     let named = rw c.in-Notice.is at c.requires.holds.1.2 in
     record {
-      serve = can-serve c.requires.holds.0 disk.tells disk.past disk.faults s c.args.nodes.now c.requires.holds.1.0
-          c.requires.holds.1.1;
-      queue = queue-there c.requires.holds.0 disk.tells disk.past disk.faults s c.requires.holds.1.0 c.args.nodes.now
-          c.in-Notice.queue
+      serve = can-serve c.requires.holds.0 disk.facts s c.args.nodes.now c.requires.holds.1.0 c.requires.holds.1.1;
+      queue = queue-there c.requires.holds.0 disk.facts s c.requires.holds.1.0 c.args.nodes.now c.in-Notice.queue
           c.requires.holds.1.1 named.1;
-      node = node-there c.requires.holds.0 disk.tells disk.past disk.faults s c.requires.holds.1.0 c.args.nodes.now
-          c.in-Notice.node
+      node = node-there c.requires.holds.0 disk.facts s c.requires.holds.1.0 c.args.nodes.now c.in-Notice.node
           c.requires.holds.1.1 named.0;
     }
 
@@ -231,13 +205,11 @@ returns-in-Notice g c =
     let disk = g.D.NodeDisk in
     let s = c.args.setup.now in
     rw c.in-Notice.is (record {
-      ok = λ given. all-served given disk.tells disk.past disk.faults s
-          (lines.Notice c.in-Notice.node c.in-Notice.queue)
-          c.notice.result c.args.nodes.now c.notice.new.self c.args.told.now c.notice.new.told
+      ok = λ given. all-served given disk.facts s (lines.Notice c.in-Notice.node c.in-Notice.queue) c.notice.result
+          c.args.nodes.now c.notice.new.self c.args.told.now c.notice.new.told
           c.notice.ensures.ok;
-      cause = λ given. all-given-up given disk.tells disk.past disk.faults s
-          (lines.Notice c.in-Notice.node c.in-Notice.queue)
-          c.notice.result c.args.nodes.now c.notice.new.self c.notice.ensures.err;
+      cause = λ given. all-given-up given disk.facts s (lines.Notice c.in-Notice.node c.in-Notice.queue) c.notice.result
+          c.args.nodes.now c.notice.new.self c.notice.ensures.err;
     })
 
 pub tick-requires : goal.tick-requires
@@ -246,13 +218,10 @@ tick-requires g c =
     let s = c.args.setup.now in
     let named = rw c.in-Tick.is at c.requires.holds.1.2 in
     record {
-      serve = can-serve c.requires.holds.0 disk.tells disk.past disk.faults s c.args.nodes.now c.requires.holds.1.0
-          c.requires.holds.1.1;
-      queue = queue-there c.requires.holds.0 disk.tells disk.past disk.faults s c.requires.holds.1.0 c.args.nodes.now
-          c.in-Tick.queue
+      serve = can-serve c.requires.holds.0 disk.facts s c.args.nodes.now c.requires.holds.1.0 c.requires.holds.1.1;
+      queue = queue-there c.requires.holds.0 disk.facts s c.requires.holds.1.0 c.args.nodes.now c.in-Tick.queue
           c.requires.holds.1.1 named.1;
-      node = node-there c.requires.holds.0 disk.tells disk.past disk.faults s c.requires.holds.1.0 c.args.nodes.now
-          c.in-Tick.node
+      node = node-there c.requires.holds.0 disk.facts s c.requires.holds.1.0 c.args.nodes.now c.in-Tick.node
           c.requires.holds.1.1 named.0;
     }
 
@@ -262,11 +231,9 @@ returns-in-Tick g c =
     let disk = g.D.NodeDisk in
     let s = c.args.setup.now in
     rw c.in-Tick.is (record {
-      ok = λ given. all-served given disk.tells disk.past disk.faults s (lines.Tick c.in-Tick.node c.in-Tick.queue)
-          c.tick.result
+      ok = λ given. all-served given disk.facts s (lines.Tick c.in-Tick.node c.in-Tick.queue) c.tick.result
           c.args.nodes.now c.tick.new.self c.args.told.now c.tick.new.told c.tick.ensures.ok;
-      cause = λ given. all-given-up given disk.tells disk.past disk.faults s (lines.Tick c.in-Tick.node c.in-Tick.queue)
-          c.tick.result
+      cause = λ given. all-given-up given disk.facts s (lines.Tick c.in-Tick.node c.in-Tick.queue) c.tick.result
           c.args.nodes.now c.tick.new.self c.tick.ensures.err;
     })
 
@@ -276,10 +243,8 @@ deliver-requires g c =
     let s = c.args.setup.now in
     let named = rw c.in-Deliver.is at c.requires.holds.1.2 in
     record {
-      serve = can-serve c.requires.holds.0 disk.tells disk.past disk.faults s c.args.nodes.now c.requires.holds.1.0
-          c.requires.holds.1.1;
-      queue = queue-there c.requires.holds.0 disk.tells disk.past disk.faults s c.requires.holds.1.0 c.args.nodes.now
-          c.in-Deliver.queue
+      serve = can-serve c.requires.holds.0 disk.facts s c.args.nodes.now c.requires.holds.1.0 c.requires.holds.1.1;
+      queue = queue-there c.requires.holds.0 disk.facts s c.requires.holds.1.0 c.args.nodes.now c.in-Deliver.queue
           c.requires.holds.1.1 named;
     }
 
@@ -289,12 +254,10 @@ returns-in-Deliver g c =
     let disk = g.D.NodeDisk in
     let s = c.args.setup.now in
     rw c.in-Deliver.is (record {
-      ok = λ given. all-served given disk.tells disk.past disk.faults s
-          (lines.Deliver c.in-Deliver.queue c.in-Deliver.message)
+      ok = λ given. all-served given disk.facts s (lines.Deliver c.in-Deliver.queue c.in-Deliver.message)
           c.deliver.result c.args.nodes.now c.deliver.new.self c.args.told.now c.deliver.new.told
           c.deliver.ensures.ok;
-      cause = λ given. all-given-up given disk.tells disk.past disk.faults s
-          (lines.Deliver c.in-Deliver.queue c.in-Deliver.message)
+      cause = λ given. all-given-up given disk.facts s (lines.Deliver c.in-Deliver.queue c.in-Deliver.message)
           c.deliver.result c.args.nodes.now c.deliver.new.self c.deliver.ensures.err;
     })
 
@@ -304,10 +267,8 @@ lose-requires g c =
     let s = c.args.setup.now in
     let named = rw c.in-Lose.is at c.requires.holds.1.2 in
     record {
-      serve = can-serve c.requires.holds.0 disk.tells disk.past disk.faults s c.args.nodes.now c.requires.holds.1.0
-          c.requires.holds.1.1;
-      queue = queue-there c.requires.holds.0 disk.tells disk.past disk.faults s c.requires.holds.1.0 c.args.nodes.now
-          c.in-Lose.queue
+      serve = can-serve c.requires.holds.0 disk.facts s c.args.nodes.now c.requires.holds.1.0 c.requires.holds.1.1;
+      queue = queue-there c.requires.holds.0 disk.facts s c.requires.holds.1.0 c.args.nodes.now c.in-Lose.queue
           c.requires.holds.1.1 named;
     }
 
@@ -317,12 +278,10 @@ returns-in-Lose g c =
     let disk = g.D.NodeDisk in
     let s = c.args.setup.now in
     rw c.in-Lose.is (record {
-      ok = λ given. all-served given disk.tells disk.past disk.faults s (lines.Lose c.in-Lose.queue c.in-Lose.message)
-          c.lose.result
+      ok = λ given. all-served given disk.facts s (lines.Lose c.in-Lose.queue c.in-Lose.message) c.lose.result
           c.args.nodes.now c.lose.new.self c.args.told.now c.lose.new.told c.lose.ensures.ok;
-      cause = λ given. all-given-up given disk.tells disk.past disk.faults s
-          (lines.Lose c.in-Lose.queue c.in-Lose.message)
-          c.lose.result c.args.nodes.now c.lose.new.self c.lose.ensures.err;
+      cause = λ given. all-given-up given disk.facts s (lines.Lose c.in-Lose.queue c.in-Lose.message) c.lose.result
+          c.args.nodes.now c.lose.new.self c.lose.ensures.err;
     })
 
 pub copy-requires : goal.copy-requires
@@ -331,10 +290,8 @@ copy-requires g c =
     let s = c.args.setup.now in
     let named = rw c.in-Copy.is at c.requires.holds.1.2 in
     record {
-      serve = can-serve c.requires.holds.0 disk.tells disk.past disk.faults s c.args.nodes.now c.requires.holds.1.0
-          c.requires.holds.1.1;
-      queue = queue-there c.requires.holds.0 disk.tells disk.past disk.faults s c.requires.holds.1.0 c.args.nodes.now
-          c.in-Copy.queue
+      serve = can-serve c.requires.holds.0 disk.facts s c.args.nodes.now c.requires.holds.1.0 c.requires.holds.1.1;
+      queue = queue-there c.requires.holds.0 disk.facts s c.requires.holds.1.0 c.args.nodes.now c.in-Copy.queue
           c.requires.holds.1.1 named;
     }
 
@@ -344,12 +301,10 @@ returns-in-Copy g c =
     let disk = g.D.NodeDisk in
     let s = c.args.setup.now in
     rw c.in-Copy.is (record {
-      ok = λ given. all-served given disk.tells disk.past disk.faults s (lines.Copy c.in-Copy.queue c.in-Copy.message)
-          c.copy.result
+      ok = λ given. all-served given disk.facts s (lines.Copy c.in-Copy.queue c.in-Copy.message) c.copy.result
           c.args.nodes.now c.copy.new.self c.args.told.now c.copy.new.told c.copy.ensures.ok;
-      cause = λ given. all-given-up given disk.tells disk.past disk.faults s
-          (lines.Copy c.in-Copy.queue c.in-Copy.message)
-          c.copy.result c.args.nodes.now c.copy.new.self c.copy.ensures.err;
+      cause = λ given. all-given-up given disk.facts s (lines.Copy c.in-Copy.queue c.in-Copy.message) c.copy.result
+          c.args.nodes.now c.copy.new.self c.copy.ensures.err;
     })
 
 pub show-requires : goal.show-requires
@@ -358,10 +313,8 @@ show-requires g c =
     let s = c.args.setup.now in
     let named = rw c.in-Show.is at c.requires.holds.1.2 in
     record {
-      serve = can-serve c.requires.holds.0 disk.tells disk.past disk.faults s c.args.nodes.now c.requires.holds.1.0
-          c.requires.holds.1.1;
-      queue = queue-there c.requires.holds.0 disk.tells disk.past disk.faults s c.requires.holds.1.0 c.args.nodes.now
-          c.in-Show.queue
+      serve = can-serve c.requires.holds.0 disk.facts s c.args.nodes.now c.requires.holds.1.0 c.requires.holds.1.1;
+      queue = queue-there c.requires.holds.0 disk.facts s c.requires.holds.1.0 c.args.nodes.now c.in-Show.queue
           c.requires.holds.1.1 named;
     }
 
@@ -371,8 +324,7 @@ returns-in-Show g c =
     let disk = g.D.NodeDisk in
     let s = c.args.setup.now in
     rw c.in-Show.is (record {
-      ok = λ given. all-served given disk.tells disk.past disk.faults s (lines.Show c.in-Show.queue) c.show.result
-          c.args.nodes.now
+      ok = λ given. all-served given disk.facts s (lines.Show c.in-Show.queue) c.show.result c.args.nodes.now
           c.args.nodes.now c.args.told.now c.show.new.told c.show.ensures.ok;
       cause = λ given run before after h. want-given-up _ _ _ (lines.Show c.in-Show.queue) c.show.result
           c.show.ensures.want;
@@ -391,7 +343,7 @@ returns-in-Nothing g c =
     let disk = g.D.NodeDisk in
     let s = c.args.setup.now in
     rw c.in-Nothing.is (record {
-      ok = λ given. nothing-served given disk.tells disk.past disk.faults s c.args.nodes.now c.args.told.now;
+      ok = λ given. nothing-served given disk.facts s c.args.nodes.now c.args.told.now;
       cause = λ given run before after h. tt;
     })
 

@@ -8,21 +8,19 @@ use Rattle.qq_broker.proofs.asking.send.Goals as goal
 pub send-requires-clause-serve : goal.send-requires-clause-serve
 send-requires-clause-serve g c =
     let disk = g.D.NodeDisk in
-    can-serve c.requires.holds.0 disk.tells disk.past disk.faults c.args.setup.now c.args.nodes.now c.requires.holds.1.0
-    c.requires.holds.1.1
+    can-serve c.requires.holds.0 disk.facts c.args.setup.now c.args.nodes.now c.requires.holds.1.0 c.requires.holds.1.1
 
 pub send-requires-clause-queues : goal.send-requires-clause-queues
 send-requires-clause-queues g c =
     let disk = g.D.NodeDisk in
     subst (All (λ (queue : QueueId). IsQueueAt queue c.args.nodes.now)) (sym c.as_slice.ensures.value)
-    (targets-at c.requires.holds.0 disk.tells disk.past disk.faults c.args.setup.now c.requires.holds.1.0
-    c.args.nodes.now
+    (targets-at c.requires.holds.0 disk.facts c.args.setup.now c.requires.holds.1.0 c.args.nodes.now
     c.in-Ok.queues.items c.requires.holds.1.1 c.in-Ok.ensures.there)
 
 pub returns-clause-ok : goal.returns-clause-ok
 returns-clause-ok g c =
     let disk = g.D.NodeDisk in λ given.
-    sent given disk.tells disk.past disk.faults c.args.setup.now c.args.session c.args.exchange c.args.key c.args.body
+    sent given disk.facts c.args.setup.now c.args.session c.args.exchange c.args.key c.args.body
     c.in-Ok-publish_with.command c.as_slice.result.now c.send.result c.args.nodes.now c.send.new.self
     c.args.told.now c.send.new.told c.in-Ok-publish_with.ensures.ok
     (rw c.as_slice.ensures.value c.in-Ok.ensures.ok)
@@ -31,7 +29,6 @@ returns-clause-ok g c =
 pub returns-clause-cause : goal.returns-clause-cause
 returns-clause-cause g c =
     let disk = g.D.NodeDisk in λ given.
-    sent-in-vain given disk.tells disk.past disk.faults c.args.setup.now c.args.session c.args.exchange c.args.key
-    c.args.body
+    sent-in-vain given disk.facts c.args.setup.now c.args.session c.args.exchange c.args.key c.args.body
     c.in-Ok-publish_with.command c.as_slice.result.now c.send.result c.args.nodes.now c.send.new.self
     c.in-Ok-publish_with.ensures.ok (rw c.as_slice.ensures.value c.in-Ok.ensures.ok) c.send.ensures.err

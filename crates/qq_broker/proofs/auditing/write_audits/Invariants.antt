@@ -7,8 +7,8 @@ use Rattle.qq_broker.proofs.auditing.write_audits.Given as goal
 abbrev pub invariant-loop-row : goal.invariant-loop-row
 invariant-loop-row g l = record {
   so :
-      AuditsOn g.D.NodeDisk.tells g.D.NodeDisk.past g.D.NodeDisk.faults l.setup l.nodes
-      (sink_state g.O.Sink.written g.O.Sink.faults l.fn.output) (sink_state g.O.Sink.written g.O.Sink.faults l.output)
+      AuditsOn g.D.NodeDisk.facts l.setup l.nodes (sink_state g.O.Sink.written g.O.Sink.faults l.fn.output)
+      (sink_state g.O.Sink.written g.O.Sink.faults l.output)
       l.text.items l.rows l.row-index;
   later : g.O.Sink.faults l.fn.output ≤ g.O.Sink.faults l.output;
 }

@@ -15,15 +15,15 @@ is_idle-idle-requires g c =
 pub returns-in-Err-clause-err : goal.returns-in-Err-clause-err
 returns-in-Err-clause-err g c =
     let disk = g.D.NodeDisk in
-    stops-first disk.tells disk.past disk.faults c.args.session c.args.body c.args.queue.0 c.args.nodes.now
-    c.hand.new.nodes c.in-Err.memory c.in-Err.ensures.err
+    stops-first disk.facts c.args.session c.args.body c.args.queue.0 c.args.nodes.now c.hand.new.nodes c.in-Err.memory
+    c.in-Err.ensures.err
 
 pub returns-in-Err-pump-clause-err : goal.returns-in-Err-pump-clause-err
 returns-in-Err-pump-clause-err g c =
     let disk = g.D.NodeDisk in
     let first = c.in-Ok.ensures.ok in
-    stops-second disk.tells disk.past disk.faults c.args.session c.args.body c.args.queue.0 c.args.nodes.now
-    c.hand.new.nodes c.pump.new.nodes c.args.told.now first.told c.in-Err-pump.memory first.served
+    stops-second disk.facts c.args.session c.args.body c.args.queue.0 c.args.nodes.now c.hand.new.nodes c.pump.new.nodes
+    c.args.told.now first.told c.in-Err-pump.memory first.served
     c.in-Err-pump.ensures.err
 
 pub returns-in-Ok-answer-clause-ok : goal.returns-in-Ok-answer-clause-ok

@@ -6,8 +6,8 @@ returns-clause-asked g c = λ is_given root k disk is. is.asked
 
 pub returns-clause-opened : goal.returns-clause-opened
 returns-clause-opened g c = λ is_given root k disk is tell. (
-  opened-alone (g.D.NodeDisk.past disk) (is.opened tell),
-  opened-left (g.D.NodeDisk.past disk) (is.opened tell),
+  opened-alone (g.D.NodeDisk.facts.past disk) (is.opened tell),
+  opened-left (g.D.NodeDisk.facts.past disk) (is.opened tell),
 )
 
 pub returns-clause-new : goal.returns-clause-new

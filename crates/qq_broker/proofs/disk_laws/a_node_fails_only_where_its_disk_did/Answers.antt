@@ -3,11 +3,11 @@ use Rattle.qq_broker.proofs.disk_laws.a_node_fails_only_where_its_disk_did.Goals
 
 pub returns-clause-rose : goal.returns-clause-rose
 returns-clause-rose g c = λ given setup events k.
-    failure-counted given g.D.NodeDisk.tells g.D.NodeDisk.past g.D.NodeDisk.faults setup k events
+    failure-counted given g.D.NodeDisk.facts setup k events
 
 pub returns-clause-often : goal.returns-clause-often
 returns-clause-often g c = λ given setup events k.
-    counts-each given g.D.NodeDisk.tells g.D.NodeDisk.past g.D.NodeDisk.faults setup k events
+    counts-each given g.D.NodeDisk.facts setup k events
 
 pub returns-clause-yard : goal.returns-clause-yard
 returns-clause-yard g c = λ given before after met. met
@@ -17,8 +17,8 @@ returns-clause-met g c = λ given before after k met. (met.first, (met.last, met
 
 pub returns-clause-printed : goal.returns-clause-printed
 returns-clause-printed g c = λ given setup events k.
-    stopped-counted given g.D.NodeDisk.tells g.D.NodeDisk.past g.D.NodeDisk.faults setup k events
+    stopped-counted given g.D.NodeDisk.facts setup k events
 
 pub returns-clause-never : goal.returns-clause-never
 returns-clause-never g c = λ given setup events k.
-    never-fails given g.D.NodeDisk.tells g.D.NodeDisk.past g.D.NodeDisk.faults setup k events
+    never-fails given g.D.NodeDisk.facts setup k events

@@ -10,5 +10,5 @@ returns g c =
       honest = c.a_crash_without_junk_keeps_the_promise.ensures.image;
       comes = c.what_waits_goes_on.ensures.comes;
       begins = c.clusters_begin_with_new_logs.ensures;
-    }) given g.D.NodeDisk.tells g.D.NodeDisk.past g.D.NodeDisk.faults first last before after s runs all_new shows begun ended
-    bytes known clean status run harm
+    }) given g.D.NodeDisk.facts first last before after s runs all_new shows begun ended bytes known
+    clean status run harm

@@ -7,13 +7,12 @@ use Rattle.qq_broker.proofs.drilling.is_led.Goals as goal
 
 pub has_leader-requires-clause-serve : goal.has_leader-requires-clause-serve
 has_leader-requires-clause-serve g c =
-    can-serve c.requires.0 g.D.NodeDisk.tells g.D.NodeDisk.past g.D.NodeDisk.faults c.args.setup.now c.args.nodes.now
-    c.requires.1.0 c.requires.1.1
+    can-serve c.requires.0 g.D.NodeDisk.facts c.args.setup.now c.args.nodes.now c.requires.1.0 c.requires.1.1
 
 pub has_leader-requires-clause-queue : goal.has_leader-requires-clause-queue
 has_leader-requires-clause-queue g c =
-    queue-there c.requires.0 g.D.NodeDisk.tells g.D.NodeDisk.past g.D.NodeDisk.faults c.args.setup.now c.requires.1.0
-    c.args.nodes.now c.in-Elect.queue c.requires.1.1 (c.is_place.ensures c.if-not-is_place.false)
+    queue-there c.requires.0 g.D.NodeDisk.facts c.args.setup.now c.requires.1.0 c.args.nodes.now c.in-Elect.queue
+    c.requires.1.1 (c.is_place.ensures c.if-not-is_place.false)
 
 pub returns-else-not-is_place : goal.returns-else-not-is_place
 returns-else-not-is_place g c = λ given run h.

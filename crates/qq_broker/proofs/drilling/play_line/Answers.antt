@@ -15,14 +15,14 @@ pub returns-in-Err-clause-cause : goal.returns-in-Err-clause-cause
 returns-in-Err-clause-cause g c = λ given run k so.
     (let disk = g.Y.Disk.NodeDisk in
     next-stop
-    (Meets given disk.tells disk.past disk.faults (g.Y.Yard.faults c.args.yard.now)
-    (g.Y.Yard.faults c.serve_free.new.yard)) c.args.setup.now (setup_in c.args.setup.now run) run.events 0 c.args.line
+    (Meets given disk.facts (g.Y.Yard.faults c.args.yard.now) (g.Y.Yard.faults c.serve_free.new.yard))
+    c.args.setup.now (setup_in c.args.setup.now run) run.events 0 c.args.line
     c.in-Err.fault c.step_stop.result c.step_stop.ensures (c.in-Err.ensures.cause given run 0 so.holds))
 
 pub returns-in-Ok-clause-ok : goal.returns-in-Ok-clause-ok
 returns-in-Ok-clause-ok g c = λ given run k so.
     (let disk = g.Y.Disk.NodeDisk in
-    line-served given disk.tells disk.past disk.faults c.args.setup.now
-    c.who_listens_hears_what_is_told.ensures.heard run c.args.line k c.args.nodes.now c.serve_free.new.nodes
+    line-served given disk.facts c.args.setup.now c.who_listens_hears_what_is_told.ensures.heard run c.args.line k
+    c.args.nodes.now c.serve_free.new.nodes
     c.args.told.now c.serve_free.new.told c.tell.new.told c.args.play.now c.tell.new.play so
     (c.in_default.ensures.ok given run so.holds) c.in-Ok.ensures.silent c.in-Ok.ensures.ok)

@@ -12,8 +12,8 @@ pub lines-init : goal.lines-init
 lines-init g c =
     let disk = g.Y.Disk.NodeDisk in
     record {
-      go = lines-begin disk.tells disk.past disk.faults c.args.setup.now c.args.lines.items
-          c.into_iter-line-iterator.result.rest.items c.args.nodes.now c.args.told.now c.args.play.now
+      go = lines-begin disk.facts c.args.setup.now c.args.lines.items c.into_iter-line-iterator.result.rest.items
+          c.args.nodes.now c.args.told.now c.args.play.now
           c.into_iter-line-iterator.ensures.into_iter_gives.0;
       later = omega arith;
     }
@@ -37,8 +37,8 @@ returns-in-Err-clause-cause g c = λ given run k so.
     let rest = c.next.new.self.rest.items in
     let all : c.args.lines.items ≡ on.done ++ c.in-Some.line ∷ rest =
     on.are ∙ ap (λ (l : List ScriptLine). on.done ++ l) c.in-Some.ensures.steps.0 in
-    lines-stop given disk.tells disk.past disk.faults s (yards c.args.yard.now) (yards c.lines.yard)
-    (yards c.play_line.new.yard) c.lines.invariant.later run c.args.lines.items on.done c.in-Some.line rest k c.lines.nodes
+    lines-stop given disk.facts s (yards c.args.yard.now) (yards c.lines.yard) (yards c.play_line.new.yard)
+    c.lines.invariant.later run c.args.lines.items on.done c.in-Some.line rest k c.lines.nodes
     c.lines.told c.lines.play c.in-Err.stop all on.so
     (c.in-Err.ensures.cause given (run_with run on.so.more) (know (setup_in s run) (cluster_in s run) on.so.more k)
     on.so.plays))
@@ -47,7 +47,7 @@ pub lines-preserved : goal.lines-preserved
 lines-preserved g c =
     let disk = g.Y.Disk.NodeDisk in
     record {
-      go = lines-go disk.tells disk.past disk.faults c.args.setup.now c.args.lines.items c.lines.line-iterator.rest.items
+      go = lines-go disk.facts c.args.setup.now c.args.lines.items c.lines.line-iterator.rest.items
           c.next.new.self.rest.items c.in-Some.line c.args.nodes.now c.lines.nodes c.play_line.new.nodes c.args.told.now
           c.lines.told c.play_line.new.told c.args.play.now c.lines.play c.play_line.new.play c.in-Some.ensures.steps.0
           c.lines.invariant.go c.in_default.ensures.ok;
@@ -57,7 +57,7 @@ lines-preserved g c =
 pub returns-clause-ok : goal.returns-clause-ok
 returns-clause-ok g c =
     let disk = g.Y.Disk.NodeDisk in
-    lines-end disk.tells disk.past disk.faults c.args.setup.now c.args.lines.items c.lines.line-iterator.rest.items
+    lines-end disk.facts c.args.setup.now c.args.lines.items c.lines.line-iterator.rest.items
     c.args.nodes.now c.lines.nodes c.args.told.now c.lines.told c.args.play.now c.lines.play
     (nil_from_length c.lines.line-iterator.rest.items
     (omega (arith, c.lines.line-iterator.rest.ok.0, c.in-None.ensures.steps.0))) c.lines.invariant.go

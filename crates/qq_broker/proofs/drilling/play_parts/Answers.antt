@@ -21,7 +21,7 @@ returns-in-Err-clause-cause g c = λ given run k so.
     let list = c.args.parts.now in
     let i = c.parts.part-index in
     let on = c.parts.invariant.go given run k so in
-    parts-stop given disk.tells disk.past disk.faults c.args.setup.now (yards c.args.yard.now) (yards c.parts.yard)
+    parts-stop given disk.facts c.args.setup.now (yards c.args.yard.now) (yards c.parts.yard)
     (yards c.play_part.new.yard) c.parts.invariant.later run list (take i list) _ (drop (i + 1) list) k
     c.parts.nodes c.parts.told c.parts.play c.in-Err.stop (parts-split list i _ (omega (arith, c.parts-test.true))) on
     (c.in-Err.ensures.cause given (run_with run on.more) on.later on.plays))
@@ -32,8 +32,8 @@ parts-preserved g c =
     let list = c.args.parts.now in
     let i = c.parts.part-index in
     record {
-      go = parts-go disk.tells disk.past disk.faults c.args.setup.now (take i list) (take (i + 1) list)
-          _ c.args.nodes.now c.parts.nodes c.play_part.new.nodes c.args.told.now c.parts.told
+      go = parts-go disk.facts c.args.setup.now (take i list) (take (i + 1) list) _ c.args.nodes.now c.parts.nodes
+          c.play_part.new.nodes c.args.told.now c.parts.told
           c.play_part.new.told c.args.play.now c.parts.play c.play_part.new.play
           (take_more list i _ (omega (arith, c.parts-test.true)))
           c.parts.invariant.go c.in_default.ensures.ok;
@@ -45,6 +45,6 @@ returns-clause-ok g c = λ given run k so.
     (let disk = g.Y.Disk.NodeDisk in
     let list = c.args.parts.now in
     subst
-    (λ (l : List Part). PartsDone given disk.tells disk.past disk.faults c.args.setup.now run l k c.parts.nodes c.parts.told
-    c.parts.play) (take_all c.parts.part-index list (omega (arith, c.parts-test.false)))
+    (λ (l : List Part). PartsDone given disk.facts c.args.setup.now run l k c.parts.nodes c.parts.told c.parts.play)
+    (take_all c.parts.part-index list (omega (arith, c.parts-test.false)))
     (c.parts.invariant.go given run k so))

@@ -8,15 +8,15 @@ use Rattle.qq_broker.proofs.drills.add_audits.Goals as goal
 pub audit_text-requires : goal.audit_text-requires
 audit_text-requires g c =
     let disk = g.D.NodeDisk in
-    audit-there disk.tells disk.past disk.faults c.args.setup.now c.args.nodes.now c.as_slice-rows.result.now
-    c.loop-row.row-index c.row-item.result (c.as_slice-rows.ensures, c.loop-row-test.true, c.row-item.is)
+    audit-there disk.facts c.args.setup.now c.args.nodes.now c.as_slice-rows.result.now c.loop-row.row-index
+    c.row-item.result (c.as_slice-rows.ensures, c.loop-row-test.true, c.row-item.is)
     c.requires.holds.0 c.requires.holds.1.0 c.requires.holds.1.1
 
 pub count_rows-requires : goal.count_rows-requires
 count_rows-requires g c =
     let disk = g.D.NodeDisk in
-    audit-there disk.tells disk.past disk.faults c.args.setup.now c.args.nodes.now c.as_slice-rows.result.now
-    c.loop-row.row-index c.row-item.result (c.as_slice-rows.ensures, c.loop-row-test.true, c.row-item.is)
+    audit-there disk.facts c.args.setup.now c.args.nodes.now c.as_slice-rows.result.now c.loop-row.row-index
+    c.row-item.result (c.as_slice-rows.ensures, c.loop-row-test.true, c.row-item.is)
     c.requires.holds.0 c.requires.holds.1.0 c.requires.holds.1.1
 
 pub loop-row-preserved : goal.loop-row-preserved
@@ -27,30 +27,30 @@ loop-row-preserved g c =
     let i = c.loop-row.row-index in
     let row = c.row-item.result in
     record {
-      digests = digests-more disk.tells disk.past disk.faults s c.args.nodes.now c.args.digest.now c.loop-row.digest
-          c.update.new.self rows i row c.as_slice.result.now c.loop-row-test.true c.row-item.is
+      digests = digests-more disk.facts s c.args.nodes.now c.args.digest.now c.loop-row.digest c.update.new.self rows i
+          row c.as_slice.result.now c.loop-row-test.true c.row-item.is
           c.loop-row.invariant.digests
           (λ given run h. c.as_slice.ensures.value
-          ∙ row-adds disk.tells disk.past disk.faults s c.args.nodes.now rows i row c.new-text.result.items
-          c.audit_text.new.text.items c.requires.may (c.as_slice-rows.ensures, c.loop-row-test.true, c.row-item.is)
+          ∙ row-adds disk.facts s c.args.nodes.now rows i row c.new-text.result.items c.audit_text.new.text.items
+          c.requires.may (c.as_slice-rows.ensures, c.loop-row-test.true, c.row-item.is)
           (λ setup d st. c.in_default.ensures.ok setup d c.args.nodes.now refl st) given run h
           ∙ ap (λ (l : List ℕ). l ++ row_audit (cluster_in s run) row) c.new-text.ensures.items)
           c.update.ensures;
-      tallies = tallies-more disk.tells disk.past disk.faults s c.args.nodes.now c.args.tally.now c.loop-row.tally
-          c.count_rows.new.tally rows i row c.loop-row-test.true c.row-item.is c.loop-row.invariant.tallies
+      tallies = tallies-more disk.facts s c.args.nodes.now c.args.tally.now c.loop-row.tally c.count_rows.new.tally rows
+          i row c.loop-row-test.true c.row-item.is c.loop-row.invariant.tallies
           (λ given run h. c.in_default-count_rows.ensures (setup_in s run) (cluster_in s run) h.stands);
     }
 
 pub returns-clause-digest : goal.returns-clause-digest
 returns-clause-digest g c =
     let disk = g.D.NodeDisk in
-    digests-end disk.tells disk.past disk.faults c.args.setup.now c.args.nodes.now c.args.digest.now c.loop-row.digest
+    digests-end disk.facts c.args.setup.now c.args.nodes.now c.args.digest.now c.loop-row.digest
     c.as_slice-rows.result.now c.loop-row.row-index c.requires.may c.as_slice-rows.ensures
     (omega (arith, c.loop-row-test.false)) c.loop-row.invariant.digests
 
 pub returns-clause-tally : goal.returns-clause-tally
 returns-clause-tally g c =
     let disk = g.D.NodeDisk in
-    tallies-end disk.tells disk.past disk.faults c.args.setup.now c.args.nodes.now c.args.tally.now c.loop-row.tally
+    tallies-end disk.facts c.args.setup.now c.args.nodes.now c.args.tally.now c.loop-row.tally
     c.as_slice-rows.result.now c.loop-row.row-index c.as_slice-rows.ensures (omega (arith, c.loop-row-test.false))
     c.loop-row.invariant.tallies

@@ -17,8 +17,8 @@ returns-in-Ok-clause-ends g c = λ given run k so.
     let state = sink_state g.O.Sink.written g.O.Sink.faults in
     let s = c.args.setup.now in
     let on = c.in-Ok.ensures.ok given run k so in
-    drill-finished given disk.tells disk.past disk.faults s (yards c.args.yard.now) (yards c.play_parts.new.yard) run
-    c.args.parts.now k c.args.number c.write_summary.result (state c.args.output.now) (state c.write_summary.new.output)
+    drill-finished given disk.facts s (yards c.args.yard.now) (yards c.play_parts.new.yard) run c.args.parts.now k
+    c.args.number c.write_summary.result (state c.args.output.now) (state c.write_summary.new.output)
     c.play_parts.new.nodes c.play_parts.new.told c.play_parts.new.play on
     (c.write_summary.ensures.written
     (drill_text c.args.number (setup_in s run) (cluster_in s (run_with run on.more)) on.later)

@@ -10,7 +10,7 @@ returns-in-Ok-clause-ends g c = let so = c.in-Ok.ensures.ok in (so.0, so.1, inl 
 pub returns-in-Err-Disk-clause-ends : goal.returns-in-Err-Disk-clause-ends
 returns-in-Err-Disk-clause-ends g c =
     let sink = sink_state g.O.Sink.written g.O.Sink.faults in
-    let disk = g.D.NodeDisk.faults in
+    let disk = g.D.NodeDisk.facts.faults in
     let so = rw c.in-Err-Disk.field-0-is at c.in-Err-Disk.ensures.err in
     let cause = rw c.in-Err-Disk.field-0-is at c.in-Err-Disk.ensures.cause in (
       so.0,
@@ -29,7 +29,7 @@ returns-in-Err-Sink-clause-ends g c =
 pub returns-in-Err-NoMemory-clause-ends : goal.returns-in-Err-NoMemory-clause-ends
 returns-in-Err-NoMemory-clause-ends g c =
     let sink = sink_state g.O.Sink.written g.O.Sink.faults in
-    let disk = g.D.NodeDisk.faults in
+    let disk = g.D.NodeDisk.facts.faults in
     let so = rw c.in-Err-NoMemory.field-0-is at c.in-Err-NoMemory.ensures.err in (
       so.0,
       so.1,

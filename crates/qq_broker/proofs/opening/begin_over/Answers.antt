@@ -30,10 +30,9 @@ returns-in-Ok-clause-ok g c =
     let disks = c.args.disks.now.items in
     let disk = g.D.NodeDisk in
     λ given each.
-    unopened given disk.tells disk.past disk.faults s disks c.in-Ok.nodes c.requires.count each c.in-Ok.ensures.disks
+    unopened given disk.facts s disks c.in-Ok.nodes c.requires.count each c.in-Ok.ensures.disks
     (c.in-Ok.ensures.ok (cluster_setup s)
     (subst (λ (rows : List QueueRow). IsSetupOver (cluster_setup s) rows (length disks)) (sym c.as_slice.ensures)
     (is-set s c.requires.may (c.clusters_begin_with_new_logs.ensures s c.requires.may) (length disks)
     c.requires.count)))
-    (subst (λ (rows : List QueueRow). AreNew disk.tells disk.past rows c.in-Ok.nodes) c.as_slice.ensures
-    c.in-Ok.ensures.new)
+    (subst (λ (rows : List QueueRow). AreNew disk.facts rows c.in-Ok.nodes) c.as_slice.ensures c.in-Ok.ensures.new)

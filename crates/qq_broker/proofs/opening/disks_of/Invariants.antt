@@ -10,8 +10,7 @@ abbrev pub invariant-nodes : goal.invariant-nodes
 invariant-nodes g l = record {
   count : length l.disks.items ≡ l.before;
   given :
-      AreGiven (under g.Y.Yard.is_given (option_map (λ text. text.now) l.root)) g.Y.Disk.NodeDisk.tells
-      g.Y.Disk.NodeDisk.past l.disks.items;
-  whole : All (IsWhole g.Y.Disk.NodeDisk.tells g.Y.Disk.NodeDisk.past) l.disks.items;
+      AreGiven (under g.Y.Yard.is_given (option_map (λ text. text.now) l.root)) g.Y.Disk.NodeDisk.facts l.disks.items;
+  whole : All (IsWhole g.Y.Disk.NodeDisk.facts) l.disks.items;
   later : g.Y.Yard.faults l.fn.yard ≤ g.Y.Yard.faults l.yard;
 }

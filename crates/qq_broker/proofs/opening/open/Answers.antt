@@ -9,8 +9,8 @@ use Rattle.qq_broker.proofs.opening.open.Goals as goal
 
 pub returns-in-Err-clause-cause : goal.returns-in-Err-clause-cause
 returns-in-Err-clause-cause g c =
-    yard-closes (under g.Y.Yard.is_given c.args.root.now) g.Y.Disk.NodeDisk.tells
-    g.Y.Disk.NodeDisk.past g.Y.Disk.NodeDisk.faults _ _ c.args.setup.now c.in-Err.ending c.in-Err.ensures.cause
+    yard-closes (under g.Y.Yard.is_given c.args.root.now) g.Y.Disk.NodeDisk.facts _ _ c.args.setup.now c.in-Err.ending
+    c.in-Err.ensures.cause
 
 pub open-requires : goal.open-requires
 open-requires g c = (c.args.setup.now.queues, c.in-Ok.ensures.ok.new)
@@ -18,8 +18,7 @@ open-requires g c = (c.args.setup.now.queues, c.in-Ok.ensures.ok.new)
 pub returns-then-some-clause-ok : goal.returns-then-some-clause-ok
 returns-then-some-clause-ok g c =
     let s = c.args.setup.now in
-    has-opened (under g.Y.Yard.is_given c.args.root.now) g.Y.Disk.NodeDisk.tells
-    g.Y.Disk.NodeDisk.past g.Y.Disk.NodeDisk.faults s c.requires
+    has-opened (under g.Y.Yard.is_given c.args.root.now) g.Y.Disk.NodeDisk.facts s c.requires
     (c.clusters_begin_with_new_logs.ensures s c.requires) c.in-Ok.nodes c.in-Ok.ensures.ok c.open.new.nodes
     c.args.told.now c.open.new.told c.in-Ok-open_nodes.some c.if-some.true
     (c.in-Ok-open_nodes.ensures.ok s.queues c.in-Ok.ensures.ok.new)
@@ -27,29 +26,24 @@ returns-then-some-clause-ok g c =
 pub returns-else-some-clause-cause : goal.returns-else-some-clause-cause
 returns-else-some-clause-cause g c =
     let given = under g.Y.Yard.is_given c.args.root.now in
-    let tells = g.Y.Disk.NodeDisk.tells in
-    let past = g.Y.Disk.NodeDisk.past in
-    let faults = g.Y.Disk.NodeDisk.faults in
+    let facts = g.Y.Disk.NodeDisk.facts in
     let before = g.Y.Yard.faults c.args.yard.now in
     let after = g.Y.Yard.faults c.begin.new.yard in
     let s = c.args.setup.now in
-    subst (MayNotOpen (Meets given tells past faults before after) s) (sym c.yard_fault.ensures)
-    (no-disk given tells past faults s c.requires (c.clusters_begin_with_new_logs.ensures s c.requires)
-    c.in-Ok.nodes c.in-Ok.ensures.ok c.open.new.nodes c.args.told.now c.open.new.told before after
+    subst (MayNotOpen (Meets given facts before after) s) (sym c.yard_fault.ensures)
+    (no-disk given facts s c.requires (c.clusters_begin_with_new_logs.ensures s c.requires) c.in-Ok.nodes
+    c.in-Ok.ensures.ok c.open.new.nodes c.args.told.now c.open.new.told before after
     c.in-Ok-open_nodes.some c.if-some.false (some-node s c.requires)
     (c.in-Ok-open_nodes.ensures.ok s.queues c.in-Ok.ensures.ok.new))
 
 pub returns-in-Err-open_nodes-clause-cause : goal.returns-in-Err-open_nodes-clause-cause
 returns-in-Err-open_nodes-clause-cause g c =
     let given = under g.Y.Yard.is_given c.args.root.now in
-    let tells = g.Y.Disk.NodeDisk.tells in
-    let past = g.Y.Disk.NodeDisk.past in
-    let faults = g.Y.Disk.NodeDisk.faults in
+    let facts = g.Y.Disk.NodeDisk.facts in
     let before = g.Y.Yard.faults c.args.yard.now in
     let after = g.Y.Yard.faults c.begin.new.yard in
     let s = c.args.setup.now in
-    subst (MayNotOpen (Meets given tells past faults before after) s)
-    (sym (c.ending.ensures ∙ ap ending_of c.from.ensures))
-    (not-opened given tells past faults s c.requires (c.clusters_begin_with_new_logs.ensures s c.requires)
-    c.in-Ok.nodes c.open.new.nodes c.in-Ok.ensures.ok before after c.in-Err-open_nodes.fault c.restart_stop.result
+    subst (MayNotOpen (Meets given facts before after) s) (sym (c.ending.ensures ∙ ap ending_of c.from.ensures))
+    (not-opened given facts s c.requires (c.clusters_begin_with_new_logs.ensures s c.requires) c.in-Ok.nodes
+    c.open.new.nodes c.in-Ok.ensures.ok before after c.in-Err-open_nodes.fault c.restart_stop.result
     c.restart_stop.ensures (c.in-Err-open_nodes.ensures.err s.queues c.in-Ok.ensures.ok.new))

@@ -16,5 +16,5 @@ returns-clause-count g c = c.take_disks.ensures.disks.many
 pub returns-clause-disks : goal.returns-clause-disks
 returns-clause-disks g c =
     let disk = g.D.NodeDisk in
-    gave-have disk.tells disk.past disk.faults c.args.nodes c.take_disks.new.self.nodes.items
-    c.take_disks.new.disks.items c.take_disks.ensures.disks
+    gave-have disk.facts c.args.nodes c.take_disks.new.self.nodes.items c.take_disks.new.disks.items
+    c.take_disks.ensures.disks

@@ -24,7 +24,7 @@ pub returns-in-Err-clause-cause : goal.returns-in-Err-clause-cause
 returns-in-Err-clause-cause g c =
     let disk = g.D.NodeDisk in
     let s = c.args.setup in
-    let met = Meets (ByHand c.args.disks.items) disk.tells disk.past disk.faults 0 0 in
+    let met = Meets (ByHand c.args.disks.items) disk.facts 0 0 in
     subst (λ (m : Memory). MayNotOpen met s (ending_of (stop_of (memory_stop m)))) (sym c.in-Err.ensures.want)
     (inr (new_logs, inl refl))
 
@@ -38,7 +38,7 @@ pub open-opened-requires : goal.open-opened-requires
 open-opened-requires g c =
     let disk = g.D.NodeDisk in (
       c.args.setup.queues,
-      (c.in-Ok.ensures.ok (ByHand c.args.disks.items) (by-hand disk.tells disk.past c.args.disks.items)).new,
+      (c.in-Ok.ensures.ok (ByHand c.args.disks.items) (by-hand disk.facts c.args.disks.items)).new,
     )
 
 pub returns-then-some-clause-ok : goal.returns-then-some-clause-ok
@@ -46,7 +46,7 @@ returns-then-some-clause-ok g c =
     let disk = g.D.NodeDisk in
     let s = c.args.setup in
     let given = ByHand c.args.disks.items in
-    let u = c.in-Ok.ensures.ok given (by-hand disk.tells disk.past c.args.disks.items) in
+    let u = c.in-Ok.ensures.ok given (by-hand disk.facts c.args.disks.items) in
     let begins = c.clusters_begin_with_new_logs.ensures s c.requires.may in
     let room : s.nodes ≤ vec_capacity c.begin_over.new.disks =
     (let same = c.begin_over.ensures.room in let many = c.requires.count in let own = c.args.disks.ok.0 in
@@ -54,14 +54,13 @@ returns-then-some-clause-ok g c =
     let broker : Broker _ =
     record { setup = s; nodes = c.open-opened.new.nodes; text = c.give_back.new.text; room = c.begin_over.new.disks } in
     told-so
-    (λ before later. HasOpened (Had given disk.tells disk.past disk.faults) s
-    (Runs given disk.tells disk.past disk.faults broker) before later)
-    c.lend-told.result c.open-opened.new.told _ c.give_back.new.text.items c.args.takers.now c.give_back.new.takers c.lend-told.ensures
+    (λ before later. HasOpened (Had given disk.facts) s (Runs given disk.facts broker) before later) c.lend-told.result
+    c.open-opened.new.told _ c.give_back.new.text.items c.args.takers.now c.give_back.new.takers c.lend-told.ensures
     c.new-text.ensures.items c.give_back.ensures.text c.give_back.ensures.takers
-    (opened-runs given disk.tells disk.past disk.faults s c.requires.may broker
-    c.open-opened.new.nodes c.lend-told.result c.open-opened.new.told refl refl c.in-Ok.ensures.empty room
-    (has-opened given disk.tells disk.past disk.faults s c.requires.may begins c.in-Ok.nodes u c.open-opened.new.nodes
-    c.lend-told.result c.open-opened.new.told c.in-Ok-opened.some c.if-some.true
+    (opened-runs given disk.facts s c.requires.may broker c.open-opened.new.nodes c.lend-told.result
+    c.open-opened.new.told refl refl c.in-Ok.ensures.empty room
+    (has-opened given disk.facts s c.requires.may begins c.in-Ok.nodes u c.open-opened.new.nodes c.lend-told.result
+    c.open-opened.new.told c.in-Ok-opened.some c.if-some.true
     (c.in-Ok-opened.ensures.ok s.queues u.new)))
 
 -- ---- each disk has failed
@@ -71,9 +70,9 @@ hand_back-requires-clause-own g c =
     let disk = g.D.NodeDisk in
     let s = c.args.setup in
     let given = ByHand c.args.disks.items in
-    let u = c.in-Ok.ensures.ok given (by-hand disk.tells disk.past c.args.disks.items) in
-    still-logs given disk.tells disk.past disk.faults s c.requires.may
-    (c.clusters_begin_with_new_logs.ensures s c.requires.may) c.in-Ok.nodes u c.open-opened.new.nodes c.in-Ok-opened.some
+    let u = c.in-Ok.ensures.ok given (by-hand disk.facts c.args.disks.items) in
+    still-logs given disk.facts s c.requires.may (c.clusters_begin_with_new_logs.ensures s c.requires.may) c.in-Ok.nodes
+    u c.open-opened.new.nodes c.in-Ok-opened.some
     c.lend-told.result c.open-opened.new.told (c.in-Ok-opened.ensures.ok s.queues u.new)
 
 pub hand_back-requires-clause-room : goal.hand_back-requires-clause-room
@@ -81,9 +80,9 @@ hand_back-requires-clause-room g c =
     let disk = g.D.NodeDisk in
     let s = c.args.setup in
     let given = ByHand c.args.disks.items in
-    let u = c.in-Ok.ensures.ok given (by-hand disk.tells disk.past c.args.disks.items) in
-    let count = still-many given disk.tells disk.past disk.faults s c.requires.may
-    (c.clusters_begin_with_new_logs.ensures s c.requires.may) c.in-Ok.nodes u c.open-opened.new.nodes c.in-Ok-opened.some
+    let u = c.in-Ok.ensures.ok given (by-hand disk.facts c.args.disks.items) in
+    let count = still-many given disk.facts s c.requires.may (c.clusters_begin_with_new_logs.ensures s c.requires.may)
+    c.in-Ok.nodes u c.open-opened.new.nodes c.in-Ok-opened.some
     c.lend-told.result c.open-opened.new.told (c.in-Ok-opened.ensures.ok s.queues u.new) in
     let same = c.begin_over.ensures.room in
     let many = c.requires.count in
@@ -96,9 +95,9 @@ returns-in-Ok-opened-clause-cause g c =
     let disk = g.D.NodeDisk in
     let s = c.args.setup in
     let given = ByHand c.args.disks.items in
-    let u = c.in-Ok.ensures.ok given (by-hand disk.tells disk.past c.args.disks.items) in
-    no-disk given disk.tells disk.past disk.faults s c.requires.may
-    (c.clusters_begin_with_new_logs.ensures s c.requires.may) c.in-Ok.nodes u c.open-opened.new.nodes
+    let u = c.in-Ok.ensures.ok given (by-hand disk.facts c.args.disks.items) in
+    no-disk given disk.facts s c.requires.may (c.clusters_begin_with_new_logs.ensures s c.requires.may) c.in-Ok.nodes u
+    c.open-opened.new.nodes
     c.lend-told.result c.open-opened.new.told 0 0 c.in-Ok-opened.some c.if-some.false
     (some-node s c.requires.may) (c.in-Ok-opened.ensures.ok s.queues u.new)
 
@@ -107,9 +106,9 @@ returns-in-Ok-opened-clause-back g c =
     let disk = g.D.NodeDisk in
     let s = c.args.setup in
     let given = ByHand c.args.disks.items in
-    let u = c.in-Ok.ensures.ok given (by-hand disk.tells disk.past c.args.disks.items) in
-    failed-back given disk.tells disk.past disk.faults s c.requires.may
-    (c.clusters_begin_with_new_logs.ensures s c.requires.may) c.in-Ok.nodes u c.args.disks.items c.requires.count
+    let u = c.in-Ok.ensures.ok given (by-hand disk.facts c.args.disks.items) in
+    failed-back given disk.facts s c.requires.may (c.clusters_begin_with_new_logs.ensures s c.requires.may)
+    c.in-Ok.nodes u c.args.disks.items c.requires.count
     c.in-Ok.ensures.disks c.open-opened.new.nodes c.hand_back.result.items c.hand_back.ensures.disks c.hand_back.ensures.count
     c.in-Ok-opened.some c.if-some.false c.lend-told.result c.open-opened.new.told
     (c.in-Ok-opened.ensures.ok s.queues u.new)
@@ -119,9 +118,9 @@ returns-in-Ok-opened-clause-failed g c =
     let disk = g.D.NodeDisk in
     let s = c.args.setup in
     let given = ByHand c.args.disks.items in
-    let u = c.in-Ok.ensures.ok given (by-hand disk.tells disk.past c.args.disks.items) in
-    all-failed given disk.tells disk.past disk.faults s c.requires.may
-    (c.clusters_begin_with_new_logs.ensures s c.requires.may) c.in-Ok.nodes u c.args.disks.items c.requires.count
+    let u = c.in-Ok.ensures.ok given (by-hand disk.facts c.args.disks.items) in
+    all-failed given disk.facts s c.requires.may (c.clusters_begin_with_new_logs.ensures s c.requires.may) c.in-Ok.nodes
+    u c.args.disks.items c.requires.count
     c.in-Ok.ensures.disks c.open-opened.new.nodes c.hand_back.result.items c.hand_back.ensures.disks c.hand_back.ensures.count
     c.in-Ok-opened.some c.if-some.false c.lend-told.result c.open-opened.new.told
     (c.in-Ok-opened.ensures.ok s.queues u.new)
@@ -131,7 +130,7 @@ returns-in-Ok-opened-clause-failed g c =
 pub hand_back-requires-in-Err-opened-clause-own : goal.hand_back-requires-in-Err-opened-clause-own
 hand_back-requires-in-Err-opened-clause-own g c =
     let disk = g.D.NodeDisk in
-    let u = c.in-Ok.ensures.ok (ByHand c.args.disks.items) (by-hand disk.tells disk.past c.args.disks.items) in
+    let u = c.in-Ok.ensures.ok (ByHand c.args.disks.items) (by-hand disk.facts c.args.disks.items) in
     (c.in-Err-opened.ensures.err c.args.setup.queues u.new).logs
 
 pub hand_back-requires-in-Err-opened-clause-room : goal.hand_back-requires-in-Err-opened-clause-room
@@ -139,10 +138,10 @@ hand_back-requires-in-Err-opened-clause-room g c =
     let disk = g.D.NodeDisk in
     let s = c.args.setup in
     let given = ByHand c.args.disks.items in
-    let u = c.in-Ok.ensures.ok given (by-hand disk.tells disk.past c.args.disks.items) in
+    let u = c.in-Ok.ensures.ok given (by-hand disk.facts c.args.disks.items) in
     let count = (c.in-Err-opened.ensures.err s.queues u.new).count in
-    let nodes = count-is given disk.tells disk.past disk.faults s c.requires.may
-    (c.clusters_begin_with_new_logs.ensures s c.requires.may) c.in-Ok.nodes u in
+    let nodes = count-is given disk.facts s c.requires.may (c.clusters_begin_with_new_logs.ensures s c.requires.may)
+    c.in-Ok.nodes u in
     let same = c.begin_over.ensures.room in
     let many = c.requires.count in
     let own = c.args.disks.ok.0 in
@@ -154,9 +153,9 @@ returns-clause-cause g c =
     let disk = g.D.NodeDisk in
     let s = c.args.setup in
     let given = ByHand c.args.disks.items in
-    let u = c.in-Ok.ensures.ok given (by-hand disk.tells disk.past c.args.disks.items) in
-    not-opened given disk.tells disk.past disk.faults s c.requires.may
-    (c.clusters_begin_with_new_logs.ensures s c.requires.may) c.in-Ok.nodes c.open-opened.new.nodes u 0 0
+    let u = c.in-Ok.ensures.ok given (by-hand disk.facts c.args.disks.items) in
+    not-opened given disk.facts s c.requires.may (c.clusters_begin_with_new_logs.ensures s c.requires.may) c.in-Ok.nodes
+    c.open-opened.new.nodes u 0 0
     c.in-Err-opened.fault (stop_for s c.in-Err-opened.fault) (own-stop s c.in-Err-opened.fault)
     (c.in-Err-opened.ensures.err s.queues u.new)
 
@@ -165,9 +164,9 @@ returns-clause-back g c =
     let disk = g.D.NodeDisk in
     let s = c.args.setup in
     let given = ByHand c.args.disks.items in
-    let u = c.in-Ok.ensures.ok given (by-hand disk.tells disk.past c.args.disks.items) in
-    refused-back given disk.tells disk.past disk.faults s c.requires.may
-    (c.clusters_begin_with_new_logs.ensures s c.requires.may) c.in-Ok.nodes u c.args.disks.items c.requires.count
+    let u = c.in-Ok.ensures.ok given (by-hand disk.facts c.args.disks.items) in
+    refused-back given disk.facts s c.requires.may (c.clusters_begin_with_new_logs.ensures s c.requires.may)
+    c.in-Ok.nodes u c.args.disks.items c.requires.count
     c.in-Ok.ensures.disks c.open-opened.new.nodes c.hand_back-in-Err-opened.result.items
     c.hand_back-in-Err-opened.ensures.disks c.hand_back-in-Err-opened.ensures.count c.in-Err-opened.fault
     (c.in-Err-opened.ensures.err s.queues u.new)

@@ -32,8 +32,7 @@ reopen-opened-requires g c =
     let images = r.1.1.1.0 in
     let rests = r.1.1.1.1 in
     let back = r.1.1.1.2 in
-    can-reopen given disk.tells disk.past disk.faults s before again c.args.audits run images rests
-    back may held same get
+    can-reopen given disk.facts s before again c.args.audits run images rests back may held same get
 
 -- ---- some node is up
 
@@ -53,16 +52,16 @@ returns-then-some-clause-ok g c =
     (let broker : Broker _ =
     record { setup = s; nodes = c.reopen-opened.new.nodes; text = c.give_back.new.text; room = c.put_disks.new.disks } in
     told-so
-    (λ first later. HasReopened (Had given disk.tells disk.past disk.faults) (setup_in s run)
+    (λ first later. HasReopened (Had given disk.facts) (setup_in s run)
     (crashed_events (setup_in s run) run.events images)
-    (λ events. Runs given disk.tells disk.past disk.faults broker (with_events run events)) first later)
-    c.lend-told.result c.reopen-opened.new.told _ c.give_back.new.text.items c.args.takers.now c.give_back.new.takers
+    (λ events. Runs given disk.facts broker (with_events run events)) first later) c.lend-told.result
+    c.reopen-opened.new.told _ c.give_back.new.text.items c.args.takers.now c.give_back.new.takers
     c.lend-told.ensures c.new-text.ensures.items c.give_back.ensures.text c.give_back.ensures.takers
-    (has-reopened given disk.tells disk.past disk.faults s before again c.args.audits run images rests
-    back may held same get c.in-Ok.some c.reopen-opened.new.nodes c.lend-told.result c.reopen-opened.new.told
+    (has-reopened given disk.facts s before again c.args.audits run images rests back may held same get c.in-Ok.some
+    c.reopen-opened.new.nodes c.lend-told.result c.reopen-opened.new.told
     c.in-Ok.ensures.ok broker c.if-some.true refl refl c.put_disks.ensures.empty
-    (let count = so-many given disk.tells disk.past disk.faults s before again c.args.audits run images rests back may
-    held same get in omega (arith, own, room, most, count))))
+    (let count = so-many given disk.facts s before again c.args.audits run images rests back may held same get in omega
+    (arith, own, room, most, count))))
 
 -- ---- none is
 
@@ -82,9 +81,8 @@ hand_back-requires-clause-own g c =
     let images = r.1.1.1.0 in
     let rests = r.1.1.1.1 in
     let back = r.1.1.1.2 in
-    still-there given disk.tells disk.past disk.faults s before again c.args.audits run images rests
-    back may held same get
-    c.in-Ok.some c.reopen-opened.new.nodes c.lend-told.result c.reopen-opened.new.told c.in-Ok.ensures.ok
+    still-there given disk.facts s before again c.args.audits run images rests back may held same get c.in-Ok.some
+    c.reopen-opened.new.nodes c.lend-told.result c.reopen-opened.new.told c.in-Ok.ensures.ok
 
 pub hand_back-requires-clause-room : goal.hand_back-requires-clause-room
 hand_back-requires-clause-room g c =
@@ -102,8 +100,7 @@ hand_back-requires-clause-room g c =
     let images = r.1.1.1.0 in
     let rests = r.1.1.1.1 in
     let back = r.1.1.1.2 in
-    let many = still-so-many given disk.tells disk.past disk.faults s before again c.args.audits run images rests
-    back may held same get
+    let many = still-so-many given disk.facts s before again c.args.audits run images rests back may held same get
     c.in-Ok.some c.reopen-opened.new.nodes c.lend-told.result c.reopen-opened.new.told c.in-Ok.ensures.ok in
     let whole = c.args.disks.ok.0 in
     let most = c.args.disks.ok.1 in
@@ -120,8 +117,8 @@ returns-in-Ok-clause-cause g c =
     let same = c.put_disks.ensures.same in
     let get = c.put_disks.ensures.disks in
     λ given run before images rests back.
-    failed-where-none given disk.tells disk.past disk.faults s before again c.args.audits run images rests
-    back may held same get c.in-Ok.some c.reopen-opened.new.nodes c.lend-told.result c.reopen-opened.new.told
+    failed-where-none given disk.facts s before again c.args.audits run images rests back may held same get c.in-Ok.some
+    c.reopen-opened.new.nodes c.lend-told.result c.reopen-opened.new.told
     c.in-Ok.ensures.ok c.hand_back.result.items c.hand_back.ensures.disks c.hand_back.ensures.count c.if-some.false
 
 pub returns-in-Ok-clause-back : goal.returns-in-Ok-clause-back
@@ -134,8 +131,8 @@ returns-in-Ok-clause-back g c =
     let same = c.put_disks.ensures.same in
     let get = c.put_disks.ensures.disks in
     λ given run before images rests back.
-    kept-where-none given disk.tells disk.past disk.faults s before again c.args.audits run images rests
-    back may held same get c.in-Ok.some c.reopen-opened.new.nodes c.lend-told.result c.reopen-opened.new.told
+    kept-where-none given disk.facts s before again c.args.audits run images rests back may held same get c.in-Ok.some
+    c.reopen-opened.new.nodes c.lend-told.result c.reopen-opened.new.told
     c.in-Ok.ensures.ok c.hand_back.result.items c.hand_back.ensures.disks c.hand_back.ensures.count
 
 -- ---- a node isn't restarted
@@ -156,9 +153,8 @@ hand_back-requires-in-Err-clause-own g c =
     let images = r.1.1.1.0 in
     let rests = r.1.1.1.1 in
     let back = r.1.1.1.2 in
-    refused-logs given disk.tells disk.past disk.faults s before again c.args.audits run images rests
-    back may held same get
-    c.in-Err.fault c.reopen-opened.new.nodes c.lend-told.result c.in-Err.ensures.err
+    refused-logs given disk.facts s before again c.args.audits run images rests back may held same get c.in-Err.fault
+    c.reopen-opened.new.nodes c.lend-told.result c.in-Err.ensures.err
 
 pub hand_back-requires-in-Err-clause-room : goal.hand_back-requires-in-Err-clause-room
 hand_back-requires-in-Err-clause-room g c =
@@ -176,8 +172,7 @@ hand_back-requires-in-Err-clause-room g c =
     let images = r.1.1.1.0 in
     let rests = r.1.1.1.1 in
     let back = r.1.1.1.2 in
-    let many = refused-many given disk.tells disk.past disk.faults s before again c.args.audits run images rests
-    back may held same get
+    let many = refused-many given disk.facts s before again c.args.audits run images rests back may held same get
     c.in-Err.fault c.reopen-opened.new.nodes c.lend-told.result c.in-Err.ensures.err in
     let whole = c.args.disks.ok.0 in
     let most = c.args.disks.ok.1 in
@@ -194,8 +189,8 @@ returns-clause-cause g c =
     let same = c.put_disks.ensures.same in
     let get = c.put_disks.ensures.disks in
     λ given run before images rests back.
-    refused-cause given disk.tells disk.past disk.faults s before again c.args.audits run images rests
-    back may held same get c.in-Err.fault c.reopen-opened.new.nodes c.lend-told.result c.in-Err.ensures.err
+    refused-cause given disk.facts s before again c.args.audits run images rests back may held same get c.in-Err.fault
+    c.reopen-opened.new.nodes c.lend-told.result c.in-Err.ensures.err
 
 pub returns-clause-back : goal.returns-clause-back
 returns-clause-back g c =
@@ -207,6 +202,6 @@ returns-clause-back g c =
     let same = c.put_disks.ensures.same in
     let get = c.put_disks.ensures.disks in
     λ given run before images rests back.
-    refused-keeps given disk.tells disk.past disk.faults s before again c.args.audits run images rests
-    back may held same get c.in-Err.fault c.reopen-opened.new.nodes c.lend-told.result c.in-Err.ensures.err
+    refused-keeps given disk.facts s before again c.args.audits run images rests back may held same get c.in-Err.fault
+    c.reopen-opened.new.nodes c.lend-told.result c.in-Err.ensures.err
     c.hand_back-in-Err.result.items c.hand_back-in-Err.ensures.disks c.hand_back-in-Err.ensures.count

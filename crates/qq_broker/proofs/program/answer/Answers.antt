@@ -29,11 +29,10 @@ returns-in-Ok-serve-clause-ok g c =
     let s = c.args.setup.now in
     let disk = g.Y.Disk.NodeDisk in
     λ given first run lines h.
-    answers_from (RunHad given disk.tells disk.past disk.faults first) s run c.in-Ok.said c.args.line.now
-    (HoldsAll given disk.tells disk.past disk.faults s first c.serve.new.nodes c.serve.new.told.takers)
-    c.args.told.now c.serve.new.told
+    answers_from (RunHad given disk.facts first) s run c.in-Ok.said c.args.line.now
+    (HoldsAll given disk.facts s first c.serve.new.nodes c.serve.new.told.takers) c.args.told.now c.serve.new.told
     (subst (λ (n : ℕ). says s n (Some c.args.line.now) ≡ Asks c.in-Ok.said) (sym lines) c.in-Ok.ensures.ok)
-    (served-all given disk.tells disk.past disk.faults s first run c.in-Ok.said c.args.nodes.now c.serve.new.nodes
+    (served-all given disk.facts s first run c.in-Ok.said c.args.nodes.now c.serve.new.nodes
     c.args.told.now c.serve.new.told h c.in-Ok-serve.ensures.free (c.in-Ok-serve.ensures.ok given run h.holds))
 
 pub returns-in-Err-serve-clause-cause : goal.returns-in-Err-serve-clause-cause
@@ -43,7 +42,7 @@ returns-in-Err-serve-clause-cause g c =
     let before = g.Y.Yard.faults c.args.yard.now in
     let after = g.Y.Yard.faults c.serve.new.yard in
     λ given first run lines h.
-    (let met = RunMeets given disk.tells disk.past disk.faults first before after in
+    (let met = RunMeets given disk.facts first before after in
     stops_from met s run c.in-Ok.said c.args.line.now c.step_stop.result
     (subst (λ (n : ℕ). says s n (Some c.args.line.now) ≡ Asks c.in-Ok.said) (sym lines) c.in-Ok.ensures.ok)
     (subst (λ (n : ℕ). HasServeCause met (setup_in s run) run.events (n + 1) c.in-Ok.said c.step_stop.result)

@@ -13,5 +13,5 @@ returns-in-Ok-clause-ends g c =
     let given = under g.Y.Yard.is_given c.args.root.now in
     inr (inr (behind-made c.open_script.result c.args.setup.now (source c.args.input.now) (source c.open_script.new.input)
     (sink c.args.output.now) (sink c.write_made.new.output) (sink c.open_script.new.output) _
-    (RunClaims given disk.tells disk.past disk.faults c.args.takers.now c.open_script.new.takers)
-    c.write_made.ensures.later c.in-Ok.ensures.ok c.open_script.ensures.ends))
+    (RunClaims given disk.facts c.args.takers.now c.open_script.new.takers) c.write_made.ensures.later
+    c.in-Ok.ensures.ok c.open_script.ensures.ends))

@@ -27,13 +27,13 @@ returns-in-Err-clause-ends g c =
     let yards = g.Y.Yard.faults in
     let s = c.args.setup.now in
     let takers = c.args.told.now.takers in
-    let below = Meets given disk.tells disk.past disk.faults (yards c.args.yard.now) (yards c.open.new.yard) in
-    let met = RunMeets given disk.tells disk.past disk.faults takers (yards c.args.yard.now) (yards c.open.new.yard) in
+    let below = Meets given disk.facts (yards c.args.yard.now) (yards c.open.new.yard) in
+    let met = RunMeets given disk.facts takers (yards c.args.yard.now) (yards c.open.new.yard) in
     inl (closed-at-once c.close.result c.in-Err.ending (source c.args.input.now) (sink c.args.output.now)
     (sink c.args.output.now) (sink c.close.new.output) (MayNotOpen met s) (omega arith) refl
     (unopened_earlier below met
-    (run-meets given disk.tells disk.past disk.faults takers (yards c.args.yard.now) (yards c.open.new.yard)) s
-    c.in-Err.ending c.in-Err.ensures.cause)
+    (run-meets given disk.facts takers (yards c.args.yard.now) (yards c.open.new.yard)) s c.in-Err.ending
+    c.in-Err.ensures.cause)
     c.close.ensures.closes)
 
 pub returns-clause-ends : goal.returns-clause-ends
@@ -45,11 +45,10 @@ returns-clause-ends g c =
     let given = under g.Y.Yard.is_given c.args.root.now in
     let s = c.args.setup.now in
     let opened = opened-so
-    (λ before later. HasOpened (Had given disk.tells disk.past disk.faults) s
-    (Holds given disk.tells disk.past disk.faults s c.in-Ok.nodes) before later) c.args.told.now c.open.new.told
+    (λ before later. HasOpened (Had given disk.facts) s (Holds given disk.facts s c.in-Ok.nodes) before later)
+    c.args.told.now c.open.new.told
     c.requires.empty c.in-Ok.ensures.ok in
-    run-stopped given disk.tells disk.past disk.faults c.args.told.now.takers c.serve_script.new.told.takers s
-    c.in-Err-serve_script.stop
+    run-stopped given disk.facts c.args.told.now.takers c.serve_script.new.told.takers s c.in-Err-serve_script.stop
     c.close-in-Err-serve_script.result c.ending.result (source c.args.input.now) (source c.serve_script.new.input)
     (sink c.args.output.now) (sink c.serve_script.new.output) (sink c.close-in-Err-serve_script.new.output)
     (yards c.args.yard.now) (yards c.open.new.yard) (yards c.serve_script.new.yard) c.in-Ok.ensures.later
@@ -64,7 +63,7 @@ returns-in-Ok-serve_script-clause-ends g c =
     let given = under g.Y.Yard.is_given c.args.root.now in
     let s = c.args.setup.now in
     let opened = opened-so
-    (λ before later. HasOpened (Had given disk.tells disk.past disk.faults) s
-    (Holds given disk.tells disk.past disk.faults s c.in-Ok.nodes) before later) c.args.told.now c.open.new.told
+    (λ before later. HasOpened (Had given disk.facts) s (Holds given disk.facts s c.in-Ok.nodes) before later)
+    c.args.told.now c.open.new.told
     c.requires.empty c.in-Ok.ensures.ok in
     inr (inl (c.in-Ok-serve_script.ensures.ok given c.args.told.now.takers opened))

@@ -18,11 +18,11 @@ lines-init g c =
     let s = c.args.setup.now in
     record {
       going = λ given first opened.
-          loops_start (RunHad given disk.tells disk.past disk.faults first) s
-          (HoldsAll given disk.tells disk.past disk.faults s first c.args.nodes.now c.args.told.now.takers)
-          (g.I.Source.left c.args.input.now) (sink c.args.output.now) c.new-lines.result
+          loops_start (RunHad given disk.facts first) s
+          (HoldsAll given disk.facts s first c.args.nodes.now c.args.told.now.takers) (g.I.Source.left c.args.input.now)
+          (sink c.args.output.now) c.new-lines.result
           (record { text = []; takers = first }) c.args.told.now c.new-lines.ensures refl
-          (opened-all given disk.tells disk.past disk.faults s first c.args.nodes.now [] c.args.told.now opened);
+          (opened-all given disk.facts s first c.args.nodes.now [] c.args.told.now opened);
       within = omega arith;
       source_later = omega arith;
       sink_later = omega arith;
@@ -37,7 +37,8 @@ returns-in-Err-clause-cause g c = λ given first opened.
     let faults = g.O.Sink.faults in (
       Rose_earlier (faults c.args.output.now) (faults c.lines.output) (faults c.write_all.new.out)
           c.lines.invariant.sink_later c.in-Err.ensures.cause.cause,
-      lines-break given disk.tells disk.past disk.faults first c.args.setup.now (at c.args.input.now c.args.output.now) c.lines.nodes c.lines.told.takers c.lines.lines (sink c.lines.output)
+      lines-break given disk.facts first c.args.setup.now (at c.args.input.now c.args.output.now) c.lines.nodes
+          c.lines.told.takers c.lines.lines (sink c.lines.output)
           (at c.lines.input c.write_all.new.out) c.lines.served c.lines.told.text
           c.text.result.now (c.lines.invariant.going given first opened) c.text.ensures c.in-Err.ensures.err,
     ))
@@ -47,7 +48,8 @@ returns-in-Ok-None-clause-ok g c = λ given first opened.
     (let disk = g.Y.Disk.NodeDisk in
     let at = streams g.I.Source.left g.I.Source.faults g.O.Sink.written g.O.Sink.faults in
     let sink = sink_state g.O.Sink.written g.O.Sink.faults in
-    rw c.clear.ensures (lines-end given disk.tells disk.past disk.faults first c.args.setup.now (at c.args.input.now c.args.output.now) c.lines.nodes c.lines.told.takers (ahead c.lines.lines (g.I.Source.left c.lines.input))
+    rw c.clear.ensures (lines-end given disk.facts first c.args.setup.now (at c.args.input.now c.args.output.now)
+    c.lines.nodes c.lines.told.takers (ahead c.lines.lines (g.I.Source.left c.lines.input))
     (sink c.lines.output) (at c.next_line.new.input c.write_all.new.out) c.lines.served c.lines.told.text
     c.text.result.now (c.lines.invariant.going given first opened) c.text.ensures c.in_default.ensures.ok c.next_line.new.lines
     (rw c.in-Ok-None.field-0-is at c.in-Ok-None.ensures.end)
@@ -62,7 +64,8 @@ returns-in-Err-Failed-clause-cause g c = λ given first opened.
     let cause = rw c.in-Err-Failed.field-0-is at c.in-Err-Failed.ensures.cause in (
       Rose_earlier (faults c.args.input.now) (faults c.lines.input) (faults c.next_line.new.input)
           c.lines.invariant.source_later cause.0,
-      rw c.clear.ensures (lines-fail given disk.tells disk.past disk.faults first c.args.setup.now (at c.args.input.now c.args.output.now) c.lines.nodes c.lines.told.takers (ahead c.lines.lines (g.I.Source.left c.lines.input))
+      rw c.clear.ensures (lines-fail given disk.facts first c.args.setup.now (at c.args.input.now c.args.output.now)
+          c.lines.nodes c.lines.told.takers (ahead c.lines.lines (g.I.Source.left c.lines.input))
           (sink c.lines.output) (at c.next_line.new.input c.write_all.new.out) c.lines.served c.lines.told.text
           c.text.result.now (c.lines.invariant.going given first opened) c.text.ensures c.in_default.ensures.ok cause.1),
     ))
@@ -74,7 +77,8 @@ returns-in-Err-TooLong-clause-cause g c = λ given first opened.
     let sink = sink_state g.O.Sink.written g.O.Sink.faults in
     let yards = g.Y.Yard.faults in
     let long = rw c.in-Err-TooLong.field-0-is at c.in-Err-TooLong.ensures.cause in
-    rw c.clear.ensures (lines-pass given disk.tells disk.past disk.faults first c.args.setup.now (at c.args.input.now c.args.output.now) c.lines.nodes c.lines.told.takers (ahead c.lines.lines (g.I.Source.left c.lines.input))
+    rw c.clear.ensures (lines-pass given disk.facts first c.args.setup.now (at c.args.input.now c.args.output.now)
+    c.lines.nodes c.lines.told.takers (ahead c.lines.lines (g.I.Source.left c.lines.input))
     (sink c.lines.output) (at c.next_line.new.input c.write_all.new.out) c.lines.served c.lines.told.text
     c.text.result.now (c.lines.invariant.going given first opened) c.text.ensures c.in_default.ensures.ok (yards c.args.yard.now)
     (yards c.lines.yard) c.refuse_long_line.result c.lines_law.ensures long.1
@@ -85,7 +89,8 @@ returns-in-Err-Memory-clause-cause g c = λ given first opened.
     (let disk = g.Y.Disk.NodeDisk in
     let at = streams g.I.Source.left g.I.Source.faults g.O.Sink.written g.O.Sink.faults in
     let sink = sink_state g.O.Sink.written g.O.Sink.faults in
-    lines-starve given disk.tells disk.past disk.faults first c.args.setup.now (at c.args.input.now c.args.output.now) c.lines.nodes c.lines.told.takers (ahead c.lines.lines (g.I.Source.left c.lines.input))
+    lines-starve given disk.facts first c.args.setup.now (at c.args.input.now c.args.output.now) c.lines.nodes
+    c.lines.told.takers (ahead c.lines.lines (g.I.Source.left c.lines.input))
     (sink c.lines.output) (at c.next_line.new.input c.write_all.new.out) c.lines.served c.lines.told.text
     c.text.result.now (c.lines.invariant.going given first opened) c.text.ensures c.in_default.ensures.ok
     c.in-Err-Memory.ensures.read)
@@ -106,15 +111,16 @@ returns-in-Err-answer-clause-cause g c = λ given first opened.
     let so = (c.lines.invariant.going given first opened) in
     let takes : TakesLine now next c.as_slice.result.now = subst (TakesLine now next) (sym c.as_slice.ensures)
     (rw c.in-Ok-Some.field-0-is at c.in-Ok-Some.ensures.line) in
-    lines-stop given disk.tells disk.past disk.faults first c.args.setup.now (at c.args.input.now c.args.output.now) c.lines.nodes c.lines.told.takers now (sink c.lines.output) (at c.next_line.new.input c.write_all.new.out) c.lines.served c.lines.told.text c.text.result.now so c.text.ensures
+    lines-stop given disk.facts first c.args.setup.now (at c.args.input.now c.args.output.now) c.lines.nodes
+    c.lines.told.takers now (sink c.lines.output) (at c.next_line.new.input c.write_all.new.out) c.lines.served
+    c.lines.told.text c.text.result.now so c.text.ensures
     c.in_default.ensures.ok (yards c.args.yard.now) (yards c.lines.yard) (yards c.answer.new.yard) c.from.result
     c.in-Err-answer.stop next c.as_slice.result.now c.answer.new.told.takers
     c.lines.invariant.yard_later c.lines_law.ensures takes c.in-Ok-Some.ensures.read
     (c.in-Err-answer.ensures.cause given first so.run so.lines
-    (subst (λ (t : Takers). HoldsAll given disk.tells disk.past disk.faults c.args.setup.now first c.lines.nodes t so.run)
+    (subst (λ (t : Takers). HoldsAll given disk.facts c.args.setup.now first c.lines.nodes t so.run)
     (sym (ap (λ (o : Outcome). o.takers) c.clear.ensures)) so.stands))
-    (so-at (RunClaims given disk.tells disk.past disk.faults first c.answer.new.told.takers) c.args.setup.now so.run
-    c.in-Err-answer.stop
+    (so-at (RunClaims given disk.facts first c.answer.new.told.takers) c.args.setup.now so.run c.in-Err-answer.stop
     (λ refused. ap (λ (o : Outcome). o.takers) (c.in-Err-answer.ensures.same refused)
     ∙ ap (λ (o : Outcome). o.takers) c.clear.ensures ∙ so.stands.seen))
     c.from.ensures)
@@ -130,14 +136,14 @@ lines-preserved g c =
     (rw c.in-Ok-Some.field-0-is at c.in-Ok-Some.ensures.line) in
     record {
       going = λ given first opened. (let so = c.lines.invariant.going given first opened in
-          lines-go-on given disk.tells disk.past disk.faults first c.args.setup.now
-          (at c.args.input.now c.args.output.now) c.lines.nodes c.lines.told.takers now (sink c.lines.output) (at c.next_line.new.input c.write_all.new.out) c.lines.served c.lines.told.text c.text.result.now so
+          lines-go-on given disk.facts first c.args.setup.now (at c.args.input.now c.args.output.now) c.lines.nodes
+          c.lines.told.takers now (sink c.lines.output) (at c.next_line.new.input c.write_all.new.out) c.lines.served c.lines.told.text c.text.result.now so
           c.text.ensures c.in_default.ensures.ok c.answer.new.nodes c.answer.new.told.takers next
           c.as_slice.result.now c.clear.new.self c.answer.new.told c.lines_law.ensures takes
           (ap (λ (o : Outcome). o.text) c.clear.ensures)
           (c.in_default-answer.ensures.ok given first so.run so.lines
           (subst
-          (λ (t : Takers). HoldsAll given disk.tells disk.past disk.faults c.args.setup.now first c.lines.nodes t so.run)
+          (λ (t : Takers). HoldsAll given disk.facts c.args.setup.now first c.lines.nodes t so.run)
           (sym (ap (λ (o : Outcome). o.takers) c.clear.ensures)) so.stands)));
       within = omega (arith, c.in_default-answer.ensures.within);
       source_later = omega (arith, c.lines.invariant.source_later, c.in-Ok-Some.ensures.later);

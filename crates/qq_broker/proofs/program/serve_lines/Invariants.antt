@@ -15,12 +15,11 @@ abbrev pub invariant-lines : goal.invariant-lines
 invariant-lines g l = record {
   going :
       (given : Giving g.row.Y-Disk.Denot) (first : Takers)
-      → HasOpened (Had given g.Y.Disk.NodeDisk.tells g.Y.Disk.NodeDisk.past g.Y.Disk.NodeDisk.faults) l.setup
-      (Holds given g.Y.Disk.NodeDisk.tells g.Y.Disk.NodeDisk.past g.Y.Disk.NodeDisk.faults l.setup l.fn.nodes)
+      → HasOpened (Had given g.Y.Disk.NodeDisk.facts) l.setup (Holds given g.Y.Disk.NodeDisk.facts l.setup l.fn.nodes)
       (record { text = []; takers = first }) l.fn.told
-      → LoopsOn (RunHad given g.Y.Disk.NodeDisk.tells g.Y.Disk.NodeDisk.past g.Y.Disk.NodeDisk.faults first) l.setup
-      (HoldsAll given g.Y.Disk.NodeDisk.tells g.Y.Disk.NodeDisk.past g.Y.Disk.NodeDisk.faults l.setup first l.nodes
-      l.told.takers) (g.I.Source.left l.fn.input) (ahead l.lines (g.I.Source.left l.input))
+      → LoopsOn (RunHad given g.Y.Disk.NodeDisk.facts first) l.setup
+      (HoldsAll given g.Y.Disk.NodeDisk.facts l.setup first l.nodes l.told.takers) (g.I.Source.left l.fn.input)
+      (ahead l.lines (g.I.Source.left l.input))
       (sink_state g.O.Sink.written g.O.Sink.faults l.fn.output) (sink_state g.O.Sink.written g.O.Sink.faults l.output)
       l.served l.told.text;
   within : l.served ≤ LINES_LIMIT;

@@ -17,8 +17,8 @@ returns-in-Ok-write_audits-clause-ok g c = λ given first opened.
     let sink = sink_state g.O.Sink.written g.O.Sink.faults in
     let s = c.args.setup.now in
     let so = c.in-Ok.ensures.ok given first opened in
-    served_done (RunClaims given disk.tells disk.past disk.faults first c.serve_lines.new.told.takers) s
-    (HoldsAll given disk.tells disk.past disk.faults s first c.serve_lines.new.nodes c.serve_lines.new.told.takers)
+    served_done (RunClaims given disk.facts first c.serve_lines.new.told.takers) s
+    (HoldsAll given disk.facts s first c.serve_lines.new.nodes c.serve_lines.new.told.takers)
     (at c.args.input.now c.args.output.now) (at c.serve_lines.new.input c.write_audits.new.output)
     (sink c.serve_lines.new.output) so
     (c.in-Ok-write_audits.ensures.ok given so.run so.stands.holds) so.stands.seen)
@@ -34,8 +34,8 @@ returns-in-Err-Failed-clause-cause g c = λ given first opened.
     let cause = rw c.in-Err-Failed.field-0-is at c.in-Err-Failed.ensures.cause in (
       Rose_earlier (faults c.args.output.now) (faults c.serve_lines.new.output) (faults c.write_audits.new.output)
           c.in-Ok.ensures.later.1 cause,
-      served_breaks (RunClaims given disk.tells disk.past disk.faults first c.serve_lines.new.told.takers) s
-          (HoldsAll given disk.tells disk.past disk.faults s first c.serve_lines.new.nodes c.serve_lines.new.told.takers)
+      served_breaks (RunClaims given disk.facts first c.serve_lines.new.told.takers) s
+          (HoldsAll given disk.facts s first c.serve_lines.new.nodes c.serve_lines.new.told.takers)
           (at c.args.input.now c.args.output.now) (at c.serve_lines.new.input c.write_audits.new.output)
           (sink c.serve_lines.new.output) so (c.in-Err-Failed.ensures.err given so.run so.stands.holds) so.stands.seen,
     ))
@@ -48,8 +48,8 @@ returns-in-Ok-clause-cause g c = λ given first opened.
     let s = c.args.setup.now in
     let so = c.in-Ok.ensures.ok given first opened in
     IfSome_then (g.I.Source.left c.args.input.now)
-    (served_breaks (RunClaims given disk.tells disk.past disk.faults first c.serve_lines.new.told.takers) s
-    (HoldsAll given disk.tells disk.past disk.faults s first c.serve_lines.new.nodes c.serve_lines.new.told.takers)
+    (served_breaks (RunClaims given disk.facts first c.serve_lines.new.told.takers) s
+    (HoldsAll given disk.facts s first c.serve_lines.new.nodes c.serve_lines.new.told.takers)
     (at c.args.input.now c.args.output.now) (at c.serve_lines.new.input c.write_audits.new.output)
     (sink c.serve_lines.new.output) so (c.in-Err-NoMemory.ensures.err given so.run so.stands.holds) so.stands.seen)
     (λ bytes cut. cut.breaks))

@@ -23,36 +23,31 @@ crash_one-requires-clause-holds g c = λ lifetimes bounds. (
 
 pub returns-in-Ok-clause-ok : goal.returns-in-Ok-clause-ok
 returns-in-Ok-clause-ok g c = λ given run told h.
-    (let tells = g.Y.Disk.NodeDisk.tells in
-    let past = g.Y.Disk.NodeDisk.past in
-    let faults = g.Y.Disk.NodeDisk.faults in
-    subst (λ (w : Which). IsServed given tells past faults c.args.setup.now run (Crash w c.args.image.now)
-    c.crash_one.new.nodes
+    (let facts = g.Y.Disk.NodeDisk.facts in
+    subst (λ (w : Which). IsServed given facts c.args.setup.now run (Crash w c.args.image.now) c.crash_one.new.nodes
     told told) (sym c.in-One.is)
-    (one-served given tells past faults c.args.setup.now run c.crash_one.new.nodes c.args.image.now told c.in-One.node
+    (one-served given facts c.args.setup.now run c.crash_one.new.nodes c.args.image.now told c.in-One.node
     (c.in-Ok.ensures.ok given c.args.setup.now run h)))
 
 pub returns-in-Ok-crash_first-clause-ok : goal.returns-in-Ok-crash_first-clause-ok
 returns-in-Ok-crash_first-clause-ok g c = λ given run told h.
-    (let tells = g.Y.Disk.NodeDisk.tells in
-    let past = g.Y.Disk.NodeDisk.past in
-    let faults = g.Y.Disk.NodeDisk.faults in
-    subst (λ (w : Which). IsServed given tells past faults c.args.setup.now run (Crash w c.args.image.now)
-    c.crash_first.new.nodes told told) (sym c.in-All.is)
-    (all-served given tells past faults c.args.setup.now run c.crash_first.new.nodes c.args.image.now told
+    (let facts = g.Y.Disk.NodeDisk.facts in
+    subst (λ (w : Which). IsServed given facts c.args.setup.now run (Crash w c.args.image.now) c.crash_first.new.nodes
+    told told) (sym c.in-All.is)
+    (all-served given facts c.args.setup.now run c.crash_first.new.nodes c.args.image.now told
     (c.in-Ok-crash_first.ensures.ok given c.args.setup.now run h)))
 
 pub returns-in-Err-clause-cause : goal.returns-in-Err-clause-cause
 returns-in-Err-clause-cause g c = λ given run number.
     (let disk = g.Y.Disk.NodeDisk in
-    crash-caused given disk.tells disk.past disk.faults (g.Y.Yard.faults c.args.yard.now)
-    (g.Y.Yard.faults c.crash_one.new.yard) c.args.setup.now run number c.args.which c.args.image.now c.in-Err.fault
+    crash-caused given disk.facts (g.Y.Yard.faults c.args.yard.now) (g.Y.Yard.faults c.crash_one.new.yard)
+    c.args.setup.now run number c.args.which c.args.image.now c.in-Err.fault
     c.crash_fault.result c.crash_fault.ensures c.in-Err.ensures.cause.cause)
 
 pub returns-in-Err-crash_first-clause-cause : goal.returns-in-Err-crash_first-clause-cause
 returns-in-Err-crash_first-clause-cause g c = λ given run number.
     (let disk = g.Y.Disk.NodeDisk in
-    crash-caused given disk.tells disk.past disk.faults (g.Y.Yard.faults c.args.yard.now)
-    (g.Y.Yard.faults c.crash_first.new.yard) c.args.setup.now run number c.args.which c.args.image.now
+    crash-caused given disk.facts (g.Y.Yard.faults c.args.yard.now) (g.Y.Yard.faults c.crash_first.new.yard)
+    c.args.setup.now run number c.args.which c.args.image.now
     c.in-Err-crash_first.fault c.crash_fault-in-Err-crash_first.result c.crash_fault-in-Err-crash_first.ensures
     c.in-Err-crash_first.ensures.cause.cause)

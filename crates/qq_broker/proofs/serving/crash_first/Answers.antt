@@ -6,8 +6,7 @@ use Rattle.qq_broker.proofs.serving.crash_first.Goals as goal
 
 pub nodes-init : goal.nodes-init
 nodes-init g c = record {
-  crashed = λ given. crashed-none given g.Y.Disk.NodeDisk.tells g.Y.Disk.NodeDisk.past g.Y.Disk.NodeDisk.faults
-      c.args.image.now c.args.nodes.now;
+  crashed = λ given. crashed-none given g.Y.Disk.NodeDisk.facts c.args.image.now c.args.nodes.now;
   later = omega arith;
 }
 
@@ -33,16 +32,16 @@ returns-in-Err-clause-cause g c = record {
 
 pub nodes-preserved : goal.nodes-preserved
 nodes-preserved g c = record {
-  crashed = λ given. crashed-more given g.Y.Disk.NodeDisk.tells g.Y.Disk.NodeDisk.past g.Y.Disk.NodeDisk.faults
-      c.args.image.now c.nodes.before c.args.nodes.now _ _ (c.nodes.invariant.crashed given)
+  crashed = λ given. crashed-more given g.Y.Disk.NodeDisk.facts c.args.image.now c.nodes.before c.args.nodes.now _ _
+      (c.nodes.invariant.crashed given)
       (c.in_default.ensures.ok given);
   later = omega (arith, c.nodes.invariant.later, c.crash_one.ensures.cause.later);
 }
 
 pub returns-clause-ok : goal.returns-clause-ok
 returns-clause-ok g c = λ given.
-    crashed-all given g.Y.Disk.NodeDisk.tells g.Y.Disk.NodeDisk.past g.Y.Disk.NodeDisk.faults c.args.image.now
-    c.nodes.before c.args.count c.args.nodes.now _ (omega arith) (c.nodes.invariant.crashed given)
+    crashed-all given g.Y.Disk.NodeDisk.facts c.args.image.now c.nodes.before c.args.count c.args.nodes.now _
+    (omega arith) (c.nodes.invariant.crashed given)
 
 pub returns-clause-cause : goal.returns-clause-cause
 returns-clause-cause g c = record { later = c.nodes.invariant.later; cause = tt }

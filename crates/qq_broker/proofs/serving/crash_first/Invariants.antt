@@ -8,7 +8,6 @@ abbrev pub invariant-nodes : goal.invariant-nodes
 invariant-nodes g l = record {
   crashed :
       (given : Giving g.row.Y-Disk.Denot)
-      → CrashedTo given g.Y.Disk.NodeDisk.tells g.Y.Disk.NodeDisk.past g.Y.Disk.NodeDisk.faults l.image l.before
-      l.fn.nodes l.nodes;
+      → CrashedTo given g.Y.Disk.NodeDisk.facts l.image l.before l.fn.nodes l.nodes;
   later : g.Y.Yard.faults l.fn.yard ≤ g.Y.Yard.faults l.yard;
 }

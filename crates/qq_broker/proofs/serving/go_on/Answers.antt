@@ -7,6 +7,6 @@ use Rattle.qq_broker.proofs.serving.go_on.Goals as goal
 
 pub returns-in-Err-clause-cause : goal.returns-in-Err-clause-cause
 returns-in-Err-clause-cause g c = λ given run number before after h.
-    given-stop (Meets given g.D.NodeDisk.tells g.D.NodeDisk.past g.D.NodeDisk.faults before after)
-    (setup_in c.args.setup.now run) run.events number c.args.line c.in-Err.memory (memory_stop c.in-Err.memory) refl
+    given-stop (Meets given g.D.NodeDisk.facts before after) (setup_in c.args.setup.now run) run.events number
+    c.args.line c.in-Err.memory (memory_stop c.in-Err.memory) refl
     (c.in-Err.ensures.cause given run before after h)

@@ -12,8 +12,8 @@ pub returns-then-gone-clause-cause : goal.returns-then-gone-clause-cause
 returns-then-gone-clause-cause g c = λ given first run number h seen.
     (let disk = g.Y.Disk.NodeDisk in
     let yards = g.Y.Yard.faults in
-    gone-caused given disk.tells disk.past disk.faults first c.args.told.now.takers (yards c.args.yard.now)
-    (yards c.args.yard.now) c.args.setup.now (setup_in c.args.setup.now run) run.events number c.args.line seen
+    gone-caused given disk.facts first c.args.told.now.takers (yards c.args.yard.now) (yards c.args.yard.now)
+    c.args.setup.now (setup_in c.args.setup.now run) run.events number c.args.line seen
     (subst (AsksGone c.args.line) c.desk.ensures (c.asks_gone-gone.ensures.gone c.if-gone.true)))
 
 pub returns-clause-free : goal.returns-clause-free
@@ -35,6 +35,6 @@ pub returns-clause-cause : goal.returns-clause-cause
 returns-clause-cause g c = λ given first run number h seen.
     (let disk = g.Y.Disk.NodeDisk in
     let yards = g.Y.Yard.faults in
-    run-causes given disk.tells disk.past disk.faults first (yards c.args.yard.now) (yards c.serve_free.new.yard)
+    run-causes given disk.facts first (yards c.args.yard.now) (yards c.serve_free.new.yard)
     c.args.setup.now (setup_in c.args.setup.now run) run.events number c.args.line c.serve_free.result
     (c.serve_free.ensures.cause given run number h))

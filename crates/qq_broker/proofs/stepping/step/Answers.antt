@@ -20,7 +20,7 @@ serve-served-requires-clause-holds g c = λ lifetimes outlive. (
 pub returns-in-Ok-clause-ok : goal.returns-in-Ok-clause-ok
 returns-in-Ok-clause-ok g c = λ given run so.
     (let disk = g.Y.Disk.NodeDisk in
-    has-stepped given disk.tells disk.past disk.faults run c.args.broker.now
+    has-stepped given disk.facts run c.args.broker.now
     (record c.args.broker.now { nodes = c.serve-served.new.nodes; text = c.replace.new.dest }) c.args.line
     c.replace.result.items c.args.takers.now c.give_back.new.takers c.lend-told.result c.serve-served.new.told so refl refl
     c.lend-told.ensures (ap (λ (v : Vec _). v.items) c.replace.ensures.value ∙ c.give_back.ensures.text)

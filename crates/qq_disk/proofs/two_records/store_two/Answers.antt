@@ -5,7 +5,7 @@ use Rattle.qq_disk.proofs.two_records.store_two.Goals as goal
 
 pub returns-in_err-append-clause-any_moment : goal.returns-in_err-append-clause-any_moment
 returns-in_err-append-clause-any_moment g c = λ told.
-    let past = g.D.NodeDisk.past in
+    let past = g.D.NodeDisk.facts.past in
     let old = content (now (past c.args.disk.now)) c.args.file in
     let p0 = past c.args.disk.now in
     let p1 = past c.append.new.self in
@@ -14,7 +14,7 @@ returns-in_err-append-clause-any_moment g c = λ told.
 
 pub returns-in_err-append-2-clause-any_moment : goal.returns-in_err-append-2-clause-any_moment
 returns-in_err-append-2-clause-any_moment g c = λ told.
-    let past = g.D.NodeDisk.past in
+    let past = g.D.NodeDisk.facts.past in
     let old = content (now (past c.args.disk.now)) c.args.file in
     let p0 = past c.args.disk.now in
     let p1 = past c.append.new.self in
@@ -25,7 +25,7 @@ returns-in_err-append-2-clause-any_moment g c = λ told.
 
 pub returns-clause-stored : goal.returns-clause-stored
 returns-clause-stored g c = λ told.
-    let past = g.D.NodeDisk.past in
+    let past = g.D.NodeDisk.facts.past in
     let old = content (now (past c.args.disk.now)) c.args.file in
     let p0 = past c.args.disk.now in
     let p1 = past c.append.new.self in
@@ -40,7 +40,7 @@ returns-clause-stored g c = λ told.
 
 pub returns-clause-any_moment : goal.returns-clause-any_moment
 returns-clause-any_moment g c = λ told.
-    let past = g.D.NodeDisk.past in
+    let past = g.D.NodeDisk.facts.past in
     let old = content (now (past c.args.disk.now)) c.args.file in
     let p0 = past c.args.disk.now in
     let p1 = past c.append.new.self in

@@ -12,12 +12,12 @@ use Rattle.qq_dump.proofs.logs.dump.Goals as goal
 
 pub returns-in-Err-clause-err : goal.returns-in-Err-clause-err
 returns-in-Err-clause-err g c =
-    let files = log_files (now (g.D.NodeDisk.past c.args.disk.now)) in
+    let files = log_files (now (g.D.NodeDisk.facts.past c.args.disk.now)) in
     (files, λ told. refl, unread c.in-Err.fault c.from.result (g.O.Sink.written c.args.output.now) files c.from.ensures)
 
 pub returns-in-Err-log_numbers-clause-err : goal.returns-in-Err-log_numbers-clause-err
 returns-in-Err-log_numbers-clause-err g c =
-    let files = log_files (now (g.D.NodeDisk.past c.args.disk.now)) in
+    let files = log_files (now (g.D.NodeDisk.facts.past c.args.disk.now)) in
     (files, λ told. refl, nothing (g.O.Sink.written c.args.output.now) files)
 
 pub returns-clause-ok : goal.returns-clause-ok
@@ -25,7 +25,7 @@ returns-clause-ok g c =
     let disk = g.D.NodeDisk in
     let sink = g.O.Sink in
     on_ok_weaker c.dump_logs.result
-    (all-shown disk.tells disk.past c.args.disk.now c.names.new.self c.in-Ok.names.items c.as_slice-2.result.now
+    (all-shown disk.facts c.args.disk.now c.names.new.self c.in-Ok.names.items c.as_slice-2.result.now
     c.names.ensures.told c.names.ensures.same c.in-Ok.ensures.ok
     (c.as_slice-2.ensures.value ∙ c.in-Ok-log_numbers.ensures.ok ∙ ap log_numbers c.as_slice.ensures.value)
     c.dump_logs.ensures.range
@@ -41,10 +41,11 @@ returns-clause-err g c =
     λ fault files. WritesFirst fault (sink.written c.args.output.now) (sink.written c.dump_logs.new.output) files in
     IfErr-weaker c.dump_logs.result
     (λ fault. (files : List LogFile)
-    × (IsTrue (disk.tells c.names.new.self) → files ≡ files_of (now (disk.past c.names.new.self)) c.as_slice-2.result.now)
+    × (IsTrue (disk.facts.tells c.names.new.self) → files ≡ files_of (now (disk.facts.past c.names.new.self))
+    c.as_slice-2.result.now)
     × First fault files)
-    (λ fault. (files : List LogFile) × AreShown disk.tells disk.past c.args.disk.now files × First fault files)
-    (λ fault. all-shown disk.tells disk.past c.args.disk.now c.names.new.self c.in-Ok.names.items c.as_slice-2.result.now
+    (λ fault. (files : List LogFile) × AreShown disk.facts c.args.disk.now files × First fault files)
+    (λ fault. all-shown disk.facts c.args.disk.now c.names.new.self c.in-Ok.names.items c.as_slice-2.result.now
     c.names.ensures.told c.names.ensures.same c.in-Ok.ensures.ok
     (c.as_slice-2.ensures.value ∙ c.in-Ok-log_numbers.ensures.ok ∙ ap log_numbers c.as_slice.ensures.value)
     c.dump_logs.ensures.range (First fault))

@@ -6,7 +6,7 @@ use Rattle.qq_dump.proofs.logs.dump_log.Goals as goal
 
 pub returns-in-Err-clause-err : goal.returns-in-Err-clause-err
 returns-in-Err-clause-err g c =
-    let bytes = content (now (g.D.NodeDisk.past c.args.disk.now)) (log_of c.args.number) in (
+    let bytes = content (now (g.D.NodeDisk.facts.past c.args.disk.now)) (log_of c.args.number) in (
       bytes,
       λ told. refl,
       unread c.in-Err.fault c.from.result (g.O.Sink.written c.args.output.now)

@@ -8,8 +8,8 @@ use Rattle.qq_dump.proofs.logs.dump_logs.Goals as goal
 
 pub returns-in-Err-clause-err : goal.returns-in-Err-clause-err
 returns-in-Err-clause-err g c =
-    let tells = g.D.NodeDisk.tells in
-    let past = g.D.NodeDisk.past in
+    let tells = g.D.NodeDisk.facts.tells in
+    let past = g.D.NodeDisk.facts.past in
     let written = g.O.Sink.written in
     let numbers = c.args.numbers.now in
     let at = c.loop-number.number-index in
@@ -28,8 +28,8 @@ returns-in-Err-clause-err g c =
 
 pub loop-number-preserved : goal.loop-number-preserved
 loop-number-preserved g c =
-    let tells = g.D.NodeDisk.tells in
-    let past = g.D.NodeDisk.past in
+    let tells = g.D.NodeDisk.facts.tells in
+    let past = g.D.NodeDisk.facts.past in
     let written = g.O.Sink.written in
     let numbers = c.args.numbers.now in
     let at = c.loop-number.number-index in

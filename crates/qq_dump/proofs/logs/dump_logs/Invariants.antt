@@ -10,10 +10,10 @@ invariant-loop-number g l =
     let sink = g.O.Sink in
     record {
       so :
-          Wrote (disk.tells l.fn.disk) (now (disk.past l.fn.disk)) (take l.number-index l.numbers)
+          Wrote (disk.facts.tells l.fn.disk) (now (disk.facts.past l.fn.disk)) (take l.number-index l.numbers)
           (sink.written l.fn.output) (sink.written l.output);
-      same : IsTrue (disk.tells l.fn.disk) → disk.past l.disk ≡ disk.past l.fn.disk;
-      told : disk.tells l.disk ≡ disk.tells l.fn.disk;
-      disk_later : disk.faults l.fn.disk ≤ disk.faults l.disk;
+      same : IsTrue (disk.facts.tells l.fn.disk) → disk.facts.past l.disk ≡ disk.facts.past l.fn.disk;
+      told : disk.facts.tells l.disk ≡ disk.facts.tells l.fn.disk;
+      disk_later : disk.facts.faults l.fn.disk ≤ disk.facts.faults l.disk;
       sink_later : sink.faults l.fn.output ≤ sink.faults l.output;
     }

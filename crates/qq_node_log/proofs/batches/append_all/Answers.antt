@@ -8,60 +8,60 @@ append_some-requires-clause-sound g c = c.batches.invariant.same.sound
 
 pub batches-init : goal.batches-init
 batches-init g c = record {
-  same = same-none g.D.NodeDisk.tells g.D.NodeDisk.past g.D.NodeDisk.faults c.args.wal.now c.requires.sound;
+  same = same-none g.D.NodeDisk.facts c.args.wal.now c.requires.sound;
   going = c.requires.going;
-  begun = begun-none g.D.NodeDisk.tells g.D.NodeDisk.past c.args.wal.now;
+  begun = begun-none g.D.NodeDisk.facts c.args.wal.now;
 }
 
 pub batches-smaller : goal.batches-smaller
 batches-smaller g c =
-    less-waits g.D.NodeDisk.tells g.D.NodeDisk.past c.in_ok-append_some.field-0 c.batches.wal c.append_some.new.wal
-    c.if-branch.true c.in_ok-append_some.ensures.ok
+    less-waits g.D.NodeDisk.facts c.in_ok-append_some.field-0 c.batches.wal c.append_some.new.wal c.if-branch.true
+    c.in_ok-append_some.ensures.ok
 
 pub batches-preserved : goal.batches-preserved
 batches-preserved g c = record {
-  same = same-then g.D.NodeDisk.tells g.D.NodeDisk.past g.D.NodeDisk.faults c.args.wal.now c.batches.wal
-      c.append_some.new.wal c.batches.invariant.same c.append_some.ensures.same;
+  same = same-then g.D.NodeDisk.facts c.args.wal.now c.batches.wal c.append_some.new.wal c.batches.invariant.same
+      c.append_some.ensures.same;
   going = c.in_ok-append_some.ensures.ok.going;
-  begun = begun-more g.D.NodeDisk.tells g.D.NodeDisk.past c.in_ok-append_some.field-0 c.args.wal.now c.batches.wal
-      c.append_some.new.wal c.batches.invariant.same.queues c.batches.invariant.same.told c.batches.invariant.begun
+  begun = begun-more g.D.NodeDisk.facts c.in_ok-append_some.field-0 c.args.wal.now c.batches.wal c.append_some.new.wal
+      c.batches.invariant.same.queues c.batches.invariant.same.told c.batches.invariant.begun
       c.in_ok-append_some.ensures.ok;
 }
 
 pub returns-in_err-append_some-clause-same : goal.returns-in_err-append_some-clause-same
 returns-in_err-append_some-clause-same g c =
-    same-then g.D.NodeDisk.tells g.D.NodeDisk.past g.D.NodeDisk.faults c.args.wal.now c.batches.wal
-    c.append_some.new.wal c.batches.invariant.same c.append_some.ensures.same
+    same-then g.D.NodeDisk.facts c.args.wal.now c.batches.wal c.append_some.new.wal c.batches.invariant.same
+    c.append_some.ensures.same
 
 pub returns-in_err-append_some-clause-stays : goal.returns-in_err-append_some-clause-stays
 returns-in_err-append_some-clause-stays g c = λ told.
-    begun-some g.D.NodeDisk.tells g.D.NodeDisk.past c.args.wal.now c.batches.wal c.append_some.new.wal
-    c.batches.invariant.same.queues c.batches.invariant.begun told
+    begun-some g.D.NodeDisk.facts c.args.wal.now c.batches.wal c.append_some.new.wal c.batches.invariant.same.queues
+    c.batches.invariant.begun told
     (c.append_some.ensures.stays (still_tells c.batches.invariant.same.told told))
 
 pub returns-clause-same : goal.returns-clause-same
 returns-clause-same g c =
-    same-then g.D.NodeDisk.tells g.D.NodeDisk.past g.D.NodeDisk.faults c.args.wal.now c.batches.wal
-    c.append_some.new.wal c.batches.invariant.same c.append_some.ensures.same
+    same-then g.D.NodeDisk.facts c.args.wal.now c.batches.wal c.append_some.new.wal c.batches.invariant.same
+    c.append_some.ensures.same
 
 pub returns-clause-ok : goal.returns-clause-ok
 returns-clause-ok g c =
     let waiting =
-    nothing-waits g.D.NodeDisk.tells g.D.NodeDisk.past c.in_ok-append_some.field-0 c.batches.wal
-    c.append_some.new.wal c.if-branch.false c.in_ok-append_some.ensures.ok in
+    nothing-waits g.D.NodeDisk.facts c.in_ok-append_some.field-0 c.batches.wal c.append_some.new.wal c.if-branch.false
+    c.in_ok-append_some.ensures.ok in
     record {
       waiting = waiting;
       going = c.in_ok-append_some.ensures.ok.going;
       holds = λ told.
-          begun-all g.D.NodeDisk.tells g.D.NodeDisk.past c.args.wal.now c.append_some.new.wal
-          (begun-more g.D.NodeDisk.tells g.D.NodeDisk.past c.in_ok-append_some.field-0 c.args.wal.now c.batches.wal
-          c.append_some.new.wal c.batches.invariant.same.queues c.batches.invariant.same.told
+          begun-all g.D.NodeDisk.facts c.args.wal.now c.append_some.new.wal
+          (begun-more g.D.NodeDisk.facts c.in_ok-append_some.field-0 c.args.wal.now c.batches.wal c.append_some.new.wal
+          c.batches.invariant.same.queues c.batches.invariant.same.told
           c.batches.invariant.begun c.in_ok-append_some.ensures.ok) waiting told;
     }
 
 pub returns-clause-stays : goal.returns-clause-stays
 returns-clause-stays g c = λ told.
-    begun-stays g.D.NodeDisk.tells g.D.NodeDisk.past c.args.wal.now c.append_some.new.wal
-    (begun-more g.D.NodeDisk.tells g.D.NodeDisk.past c.in_ok-append_some.field-0 c.args.wal.now c.batches.wal
-    c.append_some.new.wal c.batches.invariant.same.queues c.batches.invariant.same.told c.batches.invariant.begun
+    begun-stays g.D.NodeDisk.facts c.args.wal.now c.append_some.new.wal
+    (begun-more g.D.NodeDisk.facts c.in_ok-append_some.field-0 c.args.wal.now c.batches.wal c.append_some.new.wal
+    c.batches.invariant.same.queues c.batches.invariant.same.told c.batches.invariant.begun
     c.in_ok-append_some.ensures.ok) told

@@ -6,12 +6,11 @@ use Rattle.qq_node_log.proofs.batches.append_all.Given as goal
 -- so many of what waited are appended, and the others wait
 abbrev pub invariant-batches : goal.invariant-batches
 invariant-batches g l =
-    let tells = g.D.NodeDisk.tells in
-    let past = g.D.NodeDisk.past in
+    let facts = g.D.NodeDisk.facts in
     record {
-      same : SameLog tells past g.D.NodeDisk.faults l.fn.wal l.wal;
+      same : SameLog facts l.fn.wal l.wal;
       going : l.wal.stopped ≡ false;
-      begun : Begun tells past l.fn.wal l.wal;
+      begun : Begun facts l.fn.wal l.wal;
     }
 
 abbrev pub decreases-batches : goal.decreases-batches

@@ -7,13 +7,14 @@ use Rattle.qq_node_log.proofs.batches.append_some.Goals as goal
 
 pub returns-in-Ok-clause-ok : goal.returns-in-Ok-clause-ok
 returns-in-Ok-clause-ok g c =
-    appends-some g.D.NodeDisk.tells g.D.NodeDisk.past c.encodings_have_lengths.ensures.records c.in-Ok.count
+    appends-some g.D.NodeDisk.facts c.encodings_have_lengths.ensures.records c.in-Ok.count
     c.args.wal.now c.append_batch.new.self c.requires.sound.waiting c.in-Ok.ensures.batch
     (λ told. c.in-Ok.ensures.holds told)
 
 pub returns-in-Err-clause-cause : goal.returns-in-Err-clause-cause
 returns-in-Err-clause-cause g c =
-    write-caused ℕ g.D.NodeDisk.faults c.args.wal.now.stopped c.args.wal.now c.append_batch.new.self c.in-Err.fault
+    write-caused ℕ g.D.NodeDisk.facts.faults c.args.wal.now.stopped
+    c.args.wal.now c.append_batch.new.self c.in-Err.fault
     c.requires.going (ap (λ (w : Wal _). w.size) c.in-Err.ensures.err)
     c.in-Err.ensures.stops c.in-Err.ensures.cause.cause
 
@@ -25,7 +26,8 @@ returns-in-Ok-clause-same g c = record {
   told = c.append_batch.ensures.told;
   later = c.append_batch.ensures.cause.later;
   whole = λ tell. c.append_batch.ensures.may tell;
-  grown = λ tell. beside-grown (g.D.NodeDisk.past c.args.wal.now.disk) (g.D.NodeDisk.past c.append_batch.new.self.disk)
+  grown = λ tell. beside-grown (g.D.NodeDisk.facts.past c.args.wal.now.disk)
+      (g.D.NodeDisk.facts.past c.append_batch.new.self.disk)
       (log_of c.args.wal.now.header.file) (c.append_batch.ensures.beside tell);
   newest = same-newest c.args.wal.now c.append_batch.new.self c.append_batch.ensures.file;
 }
@@ -38,7 +40,8 @@ returns-in-Err-clause-same g c = record {
   told = c.append_batch.ensures.told;
   later = c.append_batch.ensures.cause.later;
   whole = λ tell. c.append_batch.ensures.may tell;
-  grown = λ tell. beside-grown (g.D.NodeDisk.past c.args.wal.now.disk) (g.D.NodeDisk.past c.append_batch.new.self.disk)
+  grown = λ tell. beside-grown (g.D.NodeDisk.facts.past c.args.wal.now.disk)
+      (g.D.NodeDisk.facts.past c.append_batch.new.self.disk)
       (log_of c.args.wal.now.header.file) (c.append_batch.ensures.beside tell);
   newest = same-newest c.args.wal.now c.append_batch.new.self c.append_batch.ensures.file;
 }

@@ -6,7 +6,7 @@ use Rattle.qq_node_log.proofs.crashing.crash_log.Goals as goal
 
 pub returns-in-Ok-clause-stands : goal.returns-in-Ok-clause-stands
 returns-in-Ok-clause-stands g c = λ lot parts.
-    let past = g.Y.Disk.NodeDisk.past in
+    let past = g.Y.Disk.NodeDisk.facts.past in
     record {
       running = λ up. absurd (false≢true up);
       whole = λ tell. crashed-whole (ids_of lot) c.args.image.now (past c.into_disk.result) (past c.in-Ok.disk)

@@ -11,44 +11,40 @@ use Rattle.qq_node_log.proofs.node_log.sync_open.Goals as goal
 
 pub returns-in-Ok-clause-ok : goal.returns-in-Ok-clause-ok
 returns-in-Ok-clause-ok g c = λ is.
-    let past = g.D.NodeDisk.past in
-    sync-runs g.D.NodeDisk.tells past g.D.NodeDisk.faults c.args.wal.now c.sync_log.new.wal
-    c.sync_log.ensures.same (is_full c.args.wal.now) (subst (λ (o : SyncOutcome). Leaves o c.args.wal.now c.sync_log.new.wal) is c.in-Ok.ensures.leaves)
+    let past = g.D.NodeDisk.facts.past in
+    sync-runs g.D.NodeDisk.facts c.args.wal.now c.sync_log.new.wal c.sync_log.ensures.same (is_full c.args.wal.now)
+    (subst (λ (o : SyncOutcome). Leaves o c.args.wal.now c.sync_log.new.wal) is c.in-Ok.ensures.leaves)
     (λ tell. subst (λ (o : SyncOutcome). Comes o c.args.wal.now.queues.items (past c.args.wal.now.disk)
     (past c.sync_log.new.wal.disk)) is (c.in-Ok.ensures.come tell))
 
 pub returns-in-Ok-clause-moments : goal.returns-in-Ok-clause-moments
 returns-in-Ok-clause-moments g c =
-    sync-keeps g.D.NodeDisk.tells g.D.NodeDisk.past g.D.NodeDisk.faults c.args.wal.now c.sync_log.new.wal
-    c.sync_log.ensures.same (λ tell. c.sync_log.ensures.stays tell)
+    sync-keeps g.D.NodeDisk.facts c.args.wal.now c.sync_log.new.wal c.sync_log.ensures.same
+    (λ tell. c.sync_log.ensures.stays tell)
 
 pub returns-in-Err-clause-moments : goal.returns-in-Err-clause-moments
 returns-in-Err-clause-moments g c =
-    sync-keeps g.D.NodeDisk.tells g.D.NodeDisk.past g.D.NodeDisk.faults c.args.wal.now c.sync_log.new.wal
-    c.sync_log.ensures.same (λ tell. c.sync_log.ensures.stays tell)
+    sync-keeps g.D.NodeDisk.facts c.args.wal.now c.sync_log.new.wal c.sync_log.ensures.same
+    (λ tell. c.sync_log.ensures.stays tell)
 
 pub returns-in-Ok-clause-same : goal.returns-in-Ok-clause-same
 returns-in-Ok-clause-same g c = λ lot parts run.
-    same-disk g.D.NodeDisk.tells g.D.NodeDisk.past g.D.NodeDisk.faults (ids_of lot) c.args.wal.now c.sync_log.new.wal
-    c.sync_log.ensures.same run.queues_are
+    same-disk g.D.NodeDisk.facts (ids_of lot) c.args.wal.now c.sync_log.new.wal c.sync_log.ensures.same run.queues_are
 
 pub returns-in-Err-clause-same : goal.returns-in-Err-clause-same
 returns-in-Err-clause-same g c = λ lot parts run.
-    same-disk g.D.NodeDisk.tells g.D.NodeDisk.past g.D.NodeDisk.faults (ids_of lot) c.args.wal.now c.sync_log.new.wal
-    c.sync_log.ensures.same run.queues_are
+    same-disk g.D.NodeDisk.facts (ids_of lot) c.args.wal.now c.sync_log.new.wal c.sync_log.ensures.same run.queues_are
 
 pub returns-in-Ok-clause-later : goal.returns-in-Ok-clause-later
 returns-in-Ok-clause-later g c =
-    same-later g.D.NodeDisk.tells g.D.NodeDisk.past g.D.NodeDisk.faults c.args.wal.now c.sync_log.new.wal
-    c.sync_log.ensures.same
+    same-later g.D.NodeDisk.facts c.args.wal.now c.sync_log.new.wal c.sync_log.ensures.same
 
 pub returns-in-Err-clause-later : goal.returns-in-Err-clause-later
 returns-in-Err-clause-later g c =
-    same-later g.D.NodeDisk.tells g.D.NodeDisk.past g.D.NodeDisk.faults c.args.wal.now c.sync_log.new.wal
-    c.sync_log.ensures.same
+    same-later g.D.NodeDisk.facts c.args.wal.now c.sync_log.new.wal c.sync_log.ensures.same
 
 pub returns-in-Err-clause-shown : goal.returns-in-Err-clause-shown
 returns-in-Err-clause-shown g c = λ tell.
-    last-on g.D.NodeDisk.tells g.D.NodeDisk.past c.sync_log.new.wal c.in-Err.memory c.sync_log.ensures.same.sound
+    last-on g.D.NodeDisk.facts c.sync_log.new.wal c.in-Err.memory c.sync_log.ensures.same.sound
     (still_tells c.sync_log.ensures.same.told tell) (c.sync_log.ensures.same.newest c.requires.2.newest)
     (c.in-Err.ensures.going_on tell) c.in-Err.ensures.cause

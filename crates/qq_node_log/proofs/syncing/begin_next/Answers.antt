@@ -13,7 +13,8 @@ returns-in-Ok-clause-same g c = record {
   told = c.roll.ensures.told;
   later = c.roll.ensures.cause.later;
   whole = λ tell. c.roll.ensures.may tell;
-  grown = λ tell. beside-grown (g.D.NodeDisk.past c.args.wal.now.disk) (g.D.NodeDisk.past c.roll.new.self.disk)
+  grown = λ tell. beside-grown (g.D.NodeDisk.facts.past c.args.wal.now.disk)
+      (g.D.NodeDisk.facts.past c.roll.new.self.disk)
       (log_of (c.args.wal.now.numbers.log + 1)) (c.roll.ensures.beside tell);
   newest = λ newest. rolled-newest c.args.wal.now c.roll.new.self c.in-Ok.ensures.ok;
 }
@@ -26,7 +27,8 @@ returns-in-Err-Disk-clause-same g c = record {
   told = c.roll.ensures.told;
   later = c.roll.ensures.cause.later;
   whole = λ tell. c.roll.ensures.may tell;
-  grown = λ tell. beside-grown (g.D.NodeDisk.past c.args.wal.now.disk) (g.D.NodeDisk.past c.roll.new.self.disk)
+  grown = λ tell. beside-grown (g.D.NodeDisk.facts.past c.args.wal.now.disk)
+      (g.D.NodeDisk.facts.past c.roll.new.self.disk)
       (log_of (c.args.wal.now.numbers.log + 1)) (c.roll.ensures.beside tell);
   newest = kept-newest c.args.wal.now c.roll.new.self c.in-Err-Disk.ensures.err;
 }
@@ -39,7 +41,8 @@ returns-in-Err-Memory-clause-same g c = record {
   told = c.roll.ensures.told;
   later = c.roll.ensures.cause.later;
   whole = λ tell. c.roll.ensures.may tell;
-  grown = λ tell. beside-grown (g.D.NodeDisk.past c.args.wal.now.disk) (g.D.NodeDisk.past c.roll.new.self.disk)
+  grown = λ tell. beside-grown (g.D.NodeDisk.facts.past c.args.wal.now.disk)
+      (g.D.NodeDisk.facts.past c.roll.new.self.disk)
       (log_of (c.args.wal.now.numbers.log + 1)) (c.roll.ensures.beside tell);
   newest = kept-newest c.args.wal.now c.roll.new.self c.in-Err-Memory.ensures.err;
 }
@@ -47,5 +50,5 @@ returns-in-Err-Memory-clause-same g c = record {
 pub returns-in-Err-Memory-clause-going_on : goal.returns-in-Err-Memory-clause-going_on
 returns-in-Err-Memory-clause-going_on g c = λ tell.
     rolls-on ℕ c.roll.new.self (c.args.wal.now.numbers.log + 1) c.in-Err-Memory.field-0 c.in-Err-Memory.memory
-    (now (g.D.NodeDisk.past c.roll.new.self.disk)) c.args.wal.now.stopped c.in-Err-Memory.field-0-is c.requires.going
-    (c.in-Err-Memory.ensures.stops tell)
+    (now (g.D.NodeDisk.facts.past c.roll.new.self.disk)) c.args.wal.now.stopped
+    c.in-Err-Memory.field-0-is c.requires.going (c.in-Err-Memory.ensures.stops tell)

@@ -11,7 +11,7 @@ use Rattle.qq_node_log.proofs.syncing.sync_log.Goals as goal
 
 pub returns-in-Ok-true-clause-come : goal.returns-in-Ok-true-clause-come
 returns-in-Ok-true-clause-come g c = λ told.
-    let past = g.D.NodeDisk.past in
+    let past = g.D.NodeDisk.facts.past in
     let tells = still_tells c.sync_batch.ensures.told told in
     let same = ap (λ (q : Vec QueueId). q.items) c.sync_batch.ensures.file.queues in
     comes-whole c.args.wal.now.queues.items (past c.args.wal.now.disk) (past c.sync_batch.new.self.disk)
@@ -28,7 +28,7 @@ returns-in-Ok-true-clause-come g c = λ told.
 
 pub returns-in-Ok-false-clause-come : goal.returns-in-Ok-false-clause-come
 returns-in-Ok-false-clause-come g c = λ told.
-    let past = g.D.NodeDisk.past in
+    let past = g.D.NodeDisk.facts.past in
     let same = ap (λ (q : Vec QueueId). q.items) c.sync_batch.ensures.file.queues in
     comes-no_file c.args.wal.now.queues.items (past c.args.wal.now.disk) (past c.sync_batch.new.self.disk)
     (past c.begin_next.new.wal.disk)
@@ -42,13 +42,13 @@ returns-in-Ok-false-clause-come g c = λ told.
 
 pub returns-in-Err-Disk-clause-come : goal.returns-in-Err-Disk-clause-come
 returns-in-Err-Disk-clause-come g c = λ told.
-    comes-nothing c.args.wal.now.queues.items (g.D.NodeDisk.past c.args.wal.now.disk)
-    (g.D.NodeDisk.past c.sync_batch.new.self.disk) (c.sync_batch.ensures.stays told)
+    comes-nothing c.args.wal.now.queues.items (g.D.NodeDisk.facts.past c.args.wal.now.disk)
+    (g.D.NodeDisk.facts.past c.sync_batch.new.self.disk) (c.sync_batch.ensures.stays told)
 
 pub returns-in-Ok-true-clause-stays : goal.returns-in-Ok-true-clause-stays
 returns-in-Ok-true-clause-stays g c =
     λ told.
-    (let past = g.D.NodeDisk.past in
+    (let past = g.D.NodeDisk.facts.past in
     let same = ap (λ (q : Vec QueueId). q.items) c.sync_batch.ensures.file.queues in
     stays-then c.args.wal.now.queues.items (past c.args.wal.now.disk) (past c.sync_batch.new.self.disk)
     (past c.begin_next.new.wal.disk) (c.sync_batch.ensures.stays told)
@@ -58,7 +58,7 @@ returns-in-Ok-true-clause-stays g c =
 pub returns-in-Ok-false-clause-stays : goal.returns-in-Ok-false-clause-stays
 returns-in-Ok-false-clause-stays g c =
     λ told.
-    (let past = g.D.NodeDisk.past in
+    (let past = g.D.NodeDisk.facts.past in
     let same = ap (λ (q : Vec QueueId). q.items) c.sync_batch.ensures.file.queues in
     stays-then c.args.wal.now.queues.items (past c.args.wal.now.disk) (past c.sync_batch.new.self.disk)
     (past c.begin_next.new.wal.disk) (c.sync_batch.ensures.stays told)
@@ -68,7 +68,7 @@ returns-in-Ok-false-clause-stays g c =
 pub returns-in-Err-clause-stays : goal.returns-in-Err-clause-stays
 returns-in-Err-clause-stays g c =
     λ told.
-    (let past = g.D.NodeDisk.past in
+    (let past = g.D.NodeDisk.facts.past in
     let same = ap (λ (q : Vec QueueId). q.items) c.sync_batch.ensures.file.queues in
     stays-then c.args.wal.now.queues.items (past c.args.wal.now.disk) (past c.sync_batch.new.self.disk)
     (past c.begin_next.new.wal.disk) (c.sync_batch.ensures.stays told)
@@ -77,45 +77,45 @@ returns-in-Err-clause-stays g c =
 
 pub returns-in-Ok-true-clause-same : goal.returns-in-Ok-true-clause-same
 returns-in-Ok-true-clause-same g c =
-    same-then g.D.NodeDisk.tells g.D.NodeDisk.past g.D.NodeDisk.faults c.args.wal.now c.sync_batch.new.self
-    c.begin_next.new.wal (record {
+    same-then g.D.NodeDisk.facts c.args.wal.now c.sync_batch.new.self c.begin_next.new.wal (record {
       sound = c.sync_batch.ensures.sound;
       queues = c.sync_batch.ensures.file.queues;
       ahead = c.sync_batch.ensures.ahead;
       told = c.sync_batch.ensures.told;
       later = c.sync_batch.ensures.cause.later;
       whole = λ tell. c.sync_batch.ensures.may tell;
-      grown = λ tell. beside-grown (g.D.NodeDisk.past c.args.wal.now.disk) (g.D.NodeDisk.past c.sync_batch.new.self.disk)
+      grown = λ tell. beside-grown (g.D.NodeDisk.facts.past c.args.wal.now.disk)
+          (g.D.NodeDisk.facts.past c.sync_batch.new.self.disk)
           (log_of c.args.wal.now.header.file) (c.sync_batch.ensures.beside tell);
       newest = same-newest c.args.wal.now c.sync_batch.new.self c.sync_batch.ensures.file;
     }) c.begin_next.ensures.same
 
 pub returns-in-Ok-false-clause-same : goal.returns-in-Ok-false-clause-same
 returns-in-Ok-false-clause-same g c =
-    same-then g.D.NodeDisk.tells g.D.NodeDisk.past g.D.NodeDisk.faults c.args.wal.now c.sync_batch.new.self
-    c.begin_next.new.wal (record {
+    same-then g.D.NodeDisk.facts c.args.wal.now c.sync_batch.new.self c.begin_next.new.wal (record {
       sound = c.sync_batch.ensures.sound;
       queues = c.sync_batch.ensures.file.queues;
       ahead = c.sync_batch.ensures.ahead;
       told = c.sync_batch.ensures.told;
       later = c.sync_batch.ensures.cause.later;
       whole = λ tell. c.sync_batch.ensures.may tell;
-      grown = λ tell. beside-grown (g.D.NodeDisk.past c.args.wal.now.disk) (g.D.NodeDisk.past c.sync_batch.new.self.disk)
+      grown = λ tell. beside-grown (g.D.NodeDisk.facts.past c.args.wal.now.disk)
+          (g.D.NodeDisk.facts.past c.sync_batch.new.self.disk)
           (log_of c.args.wal.now.header.file) (c.sync_batch.ensures.beside tell);
       newest = same-newest c.args.wal.now c.sync_batch.new.self c.sync_batch.ensures.file;
     }) c.begin_next.ensures.same
 
 pub returns-in-Err-clause-same : goal.returns-in-Err-clause-same
 returns-in-Err-clause-same g c =
-    same-then g.D.NodeDisk.tells g.D.NodeDisk.past g.D.NodeDisk.faults c.args.wal.now c.sync_batch.new.self
-    c.begin_next.new.wal (record {
+    same-then g.D.NodeDisk.facts c.args.wal.now c.sync_batch.new.self c.begin_next.new.wal (record {
       sound = c.sync_batch.ensures.sound;
       queues = c.sync_batch.ensures.file.queues;
       ahead = c.sync_batch.ensures.ahead;
       told = c.sync_batch.ensures.told;
       later = c.sync_batch.ensures.cause.later;
       whole = λ tell. c.sync_batch.ensures.may tell;
-      grown = λ tell. beside-grown (g.D.NodeDisk.past c.args.wal.now.disk) (g.D.NodeDisk.past c.sync_batch.new.self.disk)
+      grown = λ tell. beside-grown (g.D.NodeDisk.facts.past c.args.wal.now.disk)
+          (g.D.NodeDisk.facts.past c.sync_batch.new.self.disk)
           (log_of c.args.wal.now.header.file) (c.sync_batch.ensures.beside tell);
       newest = same-newest c.args.wal.now c.sync_batch.new.self c.sync_batch.ensures.file;
     }) c.begin_next.ensures.same

@@ -15,12 +15,12 @@ stop_members-requires g c = queues-sound c.requires.serve
 
 pub returns-in-Ok-clause-ok : goal.returns-in-Ok-clause-ok
 returns-in-Ok-clause-ok g c = λ text.
-    crash-done g.Y.Disk.NodeDisk.tells g.Y.Disk.NodeDisk.past g.Y.Disk.NodeDisk.faults c.args.node.0 c.args.image.now
-    c.args.nodes.now c.crash_in.new.nodes c.stop_members.new.self c.requires.node.0 c.in-Ok.ensures.ok
+    crash-done g.Y.Disk.NodeDisk.facts c.args.node.0 c.args.image.now c.args.nodes.now c.crash_in.new.nodes
+    c.stop_members.new.self c.requires.node.0 c.in-Ok.ensures.ok
     c.stop_members.ensures.same c.stop_members.ensures.turns text
 
 pub returns-in-Ok-clause-leaves : goal.returns-in-Ok-clause-leaves
 returns-in-Ok-clause-leaves g c =
-    crash-leaves g.Y.Disk.NodeDisk.tells g.Y.Disk.NodeDisk.past g.Y.Disk.NodeDisk.faults c.args.node.0 c.args.image.now
-    c.args.nodes.now c.crash_in.new.nodes c.stop_members.new.self c.requires.node.0 c.in-Ok.ensures.ok
+    crash-leaves g.Y.Disk.NodeDisk.facts c.args.node.0 c.args.image.now c.args.nodes.now c.crash_in.new.nodes
+    c.stop_members.new.self c.requires.node.0 c.in-Ok.ensures.ok
     c.stop_members.ensures.same c.stop_members.ensures.turns

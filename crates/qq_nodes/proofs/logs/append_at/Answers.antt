@@ -10,11 +10,11 @@ append_own-requires g c = c.requires.may _ (slice_get-get_or c.args.nodes.now c.
 pub returns-clause-ok : goal.returns-clause-ok
 returns-clause-ok g c =
     IfOk-weaker c.append_own.result _ _
-    (λ answer done. node-turns (Appends g.D.NodeDisk.tells g.D.NodeDisk.past g.D.NodeDisk.faults c.args.ops.items answer) c.args.at
-    c.args.nodes.now _ c.append_own.new.node c.requires.place done) c.append_own.ensures.ok
+    (λ answer done. node-turns (Appends g.D.NodeDisk.facts c.args.ops.items answer) c.args.at c.args.nodes.now _
+    c.append_own.new.node c.requires.place done) c.append_own.ensures.ok
 
 pub returns-clause-err : goal.returns-clause-err
 returns-clause-err g c =
     IfErr-weaker c.append_own.result _ _
-    (λ memory done. node-turns (AppendsInPart g.D.NodeDisk.tells g.D.NodeDisk.past g.D.NodeDisk.faults c.args.ops.items memory) c.args.at
-    c.args.nodes.now _ c.append_own.new.node c.requires.place done) c.append_own.ensures.err
+    (λ memory done. node-turns (AppendsInPart g.D.NodeDisk.facts c.args.ops.items memory) c.args.at c.args.nodes.now _
+    c.append_own.new.node c.requires.place done) c.append_own.ensures.err

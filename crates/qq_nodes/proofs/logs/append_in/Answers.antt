@@ -12,13 +12,13 @@ append_at-requires-clause-may g c node here =
 pub returns-clause-ok : goal.returns-clause-ok
 returns-clause-ok g c =
     IfOk-weaker c.append_at.result _ _
-    (λ answer done. turns-back (Appends g.D.NodeDisk.tells g.D.NodeDisk.past g.D.NodeDisk.faults c.args.ops.items answer) c.args.at
-    c.args.nodes.now.items c.deref_mut.result.now c.append_at.new.nodes c.args.nodes.now.len c.deref_mut.ensures.value
+    (λ answer done. turns-back (Appends g.D.NodeDisk.facts c.args.ops.items answer) c.args.at c.args.nodes.now.items
+    c.deref_mut.result.now c.append_at.new.nodes c.args.nodes.now.len c.deref_mut.ensures.value
     c.deref_mut.ensures.len done) c.append_at.ensures.ok
 
 pub returns-clause-err : goal.returns-clause-err
 returns-clause-err g c =
     IfErr-weaker c.append_at.result _ _
-    (λ memory done. turns-back (AppendsInPart g.D.NodeDisk.tells g.D.NodeDisk.past g.D.NodeDisk.faults c.args.ops.items memory) c.args.at
+    (λ memory done. turns-back (AppendsInPart g.D.NodeDisk.facts c.args.ops.items memory) c.args.at
     c.args.nodes.now.items c.deref_mut.result.now c.append_at.new.nodes c.args.nodes.now.len c.deref_mut.ensures.value
     c.deref_mut.ensures.len done) c.append_at.ensures.err

@@ -10,11 +10,11 @@ sync_own-requires g c = c.requires.may _ (slice_get-get_or c.args.nodes.now c.ar
 pub returns-clause-ok : goal.returns-clause-ok
 returns-clause-ok g c =
     IfOk-weaker c.sync_own.result _ _
-    (λ answer done. node-turns (Syncs g.D.NodeDisk.tells g.D.NodeDisk.past g.D.NodeDisk.faults answer) c.args.at
-    c.args.nodes.now _ c.sync_own.new.node c.requires.place done) c.sync_own.ensures.ok
+    (λ answer done. node-turns (Syncs g.D.NodeDisk.facts answer) c.args.at c.args.nodes.now _ c.sync_own.new.node
+    c.requires.place done) c.sync_own.ensures.ok
 
 pub returns-clause-err : goal.returns-clause-err
 returns-clause-err g c =
     IfErr-weaker c.sync_own.result _ _
-    (λ memory done. node-turns (SyncsInPart g.D.NodeDisk.tells g.D.NodeDisk.past g.D.NodeDisk.faults memory) c.args.at
-    c.args.nodes.now _ c.sync_own.new.node c.requires.place done) c.sync_own.ensures.err
+    (λ memory done. node-turns (SyncsInPart g.D.NodeDisk.facts memory) c.args.at c.args.nodes.now _ c.sync_own.new.node
+    c.requires.place done) c.sync_own.ensures.err

@@ -12,13 +12,13 @@ sync_at-requires-clause-may g c node here =
 pub returns-clause-ok : goal.returns-clause-ok
 returns-clause-ok g c =
     IfOk-weaker c.sync_at.result _ _
-    (λ answer done. turns-back (Syncs g.D.NodeDisk.tells g.D.NodeDisk.past g.D.NodeDisk.faults answer) c.args.at
-    c.args.nodes.now.items c.deref_mut.result.now c.sync_at.new.nodes c.args.nodes.now.len c.deref_mut.ensures.value
+    (λ answer done. turns-back (Syncs g.D.NodeDisk.facts answer) c.args.at c.args.nodes.now.items
+    c.deref_mut.result.now c.sync_at.new.nodes c.args.nodes.now.len c.deref_mut.ensures.value
     c.deref_mut.ensures.len done) c.sync_at.ensures.ok
 
 pub returns-clause-err : goal.returns-clause-err
 returns-clause-err g c =
     IfErr-weaker c.sync_at.result _ _
-    (λ memory done. turns-back (SyncsInPart g.D.NodeDisk.tells g.D.NodeDisk.past g.D.NodeDisk.faults memory) c.args.at
-    c.args.nodes.now.items c.deref_mut.result.now c.sync_at.new.nodes c.args.nodes.now.len c.deref_mut.ensures.value
+    (λ memory done. turns-back (SyncsInPart g.D.NodeDisk.facts memory) c.args.at c.args.nodes.now.items
+    c.deref_mut.result.now c.sync_at.new.nodes c.args.nodes.now.len c.deref_mut.ensures.value
     c.deref_mut.ensures.len done) c.sync_at.ensures.err

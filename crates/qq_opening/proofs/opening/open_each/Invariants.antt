@@ -7,6 +7,5 @@ use Rattle.qq_opening.proofs.opening.open_each.Given as goal
 -- the first nodes were opened
 abbrev pub invariant-nodes : goal.invariant-nodes
 invariant-nodes g l =
-    (rows : List QueueRow) → AreNew g.D.NodeDisk.tells g.D.NodeDisk.past rows l.fn.nodes
-    → OpenedTo g.D.NodeDisk.tells g.D.NodeDisk.past g.D.NodeDisk.faults rows l.at l.some l.fn.nodes l.nodes
-    l.fn.told l.told
+    (rows : List QueueRow) → AreNew g.D.NodeDisk.facts rows l.fn.nodes
+    → OpenedTo g.D.NodeDisk.facts rows l.at l.some l.fn.nodes l.nodes l.fn.told l.told

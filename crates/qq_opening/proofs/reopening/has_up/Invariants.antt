@@ -3,4 +3,4 @@ use Rattle.qq_opening.proofs.reopening.has_up.Given as goal
 
 -- none of the nodes so far is up
 abbrev pub invariant-nodes : goal.invariant-nodes
-invariant-nodes g l = NoneTo g.D.NodeDisk.tells g.D.NodeDisk.past l.nodes l.at
+invariant-nodes g l = NoneTo g.D.NodeDisk.facts l.nodes l.at

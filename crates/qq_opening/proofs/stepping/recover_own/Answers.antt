@@ -4,8 +4,8 @@ use Rattle.qq_opening.proofs.stepping.recover_own.Goals as goal
 
 pub recover_log-requires-clause-whole : goal.recover_log-requires-clause-whole
 recover_log-requires-clause-whole g c =
-    may-read g.D.NodeDisk.tells g.D.NodeDisk.past c.args.node.now c.in-Some.log c.deref.result.now c.into_disk.result
-    c.requires.own (cc) c.into_disk.ensures c.deref.ensures.value
+    may-read g.D.NodeDisk.facts c.args.node.now c.in-Some.log c.deref.result.now c.into_disk.result c.requires.own
+    (cc) c.into_disk.ensures c.deref.ensures.value
 
 pub returns-in-Ok-clause-ok : goal.returns-in-Ok-clause-ok
 returns-in-Ok-clause-ok g c =

@@ -29,8 +29,7 @@ returns-in-Err-clause-clears g c =
     let within : c.loop-name.name-index < length names = omega arith in
     let first : FileName = record { kind = Log; number = 0 } in
     let name : FileName = slice_index_or names c.loop-name.name-index first in
-    clears-then g.D.NodeDisk.tells g.D.NodeDisk.past g.D.NodeDisk.faults names c.args.chain.now c.args.wal.now
-    c.loop-name.wal c.remove_one.new.wal inv.clears
+    clears-then g.D.NodeDisk.facts names c.args.chain.now c.args.wal.now c.loop-name.wal c.remove_one.new.wal inv.clears
     (c.remove_one.ensures.clears names (among-at names c.loop-name.name-index first within))
 
 pub loop-name-preserved : goal.loop-name-preserved
@@ -40,11 +39,10 @@ loop-name-preserved g c =
     let within : c.loop-name.name-index < length names = omega arith in
     let first : FileName = record { kind = Log; number = 0 } in
     let name : FileName = slice_index_or names c.loop-name.name-index first in
-    let past = g.D.NodeDisk.past in
+    let past = g.D.NodeDisk.facts.past in
     let chain = c.args.chain.now in
     record {
-      clears = clears-then g.D.NodeDisk.tells past g.D.NodeDisk.faults names chain c.args.wal.now
-          c.loop-name.wal c.remove_one.new.wal inv.clears
+      clears = clears-then g.D.NodeDisk.facts names chain c.args.wal.now c.loop-name.wal c.remove_one.new.wal inv.clears
           (c.remove_one.ensures.clears names (among-at names c.loop-name.name-index first within));
       going = c.in_default.ensures.going;
       rest = λ told.

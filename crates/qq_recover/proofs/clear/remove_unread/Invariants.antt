@@ -7,16 +7,15 @@ use Rattle.qq_recover.proofs.clear.remove_unread.Given as goal
 -- the files so far were passed, and without the others the disk comes to the same as without all
 abbrev pub invariant-loop-name : goal.invariant-loop-name
 invariant-loop-name g l =
-    let tells = g.D.NodeDisk.tells in
-    let past = g.D.NodeDisk.past in
+    let facts = g.D.NodeDisk.facts in
     record {
-      clears : Clears tells past g.D.NodeDisk.faults l.names l.chain l.fn.wal l.wal;
+      clears : Clears facts l.names l.chain l.fn.wal l.wal;
       going : l.wal.stopped ≡ false;
       rest :
-          IsTrue (tells l.fn.wal.disk)
-          → remove_unread l.chain (now (past l.wal.disk)) (drop l.name-index l.names)
-          ≡ remove_unread l.chain (now (past l.fn.wal.disk)) l.names;
+          IsTrue (facts.tells l.fn.wal.disk)
+          → remove_unread l.chain (now (facts.past l.wal.disk)) (drop l.name-index l.names)
+          ≡ remove_unread l.chain (now (facts.past l.fn.wal.disk)) l.names;
       holds :
-          IsTrue (tells l.fn.wal.disk)
-          → StillHolds l.fn.wal.queues.items (now (past l.fn.wal.disk)) (now (past l.wal.disk));
+          IsTrue (facts.tells l.fn.wal.disk)
+          → StillHolds l.fn.wal.queues.items (now (facts.past l.fn.wal.disk)) (now (facts.past l.wal.disk));
     }

@@ -22,31 +22,29 @@ use Rattle.qq_recover.proofs.log.read_log.Goals as goal
 
 pub returns-in-Err-clause-lanes : goal.returns-in-Err-clause-lanes
 returns-in-Err-clause-lanes g c = λ told listing.
-    let tells = g.D.NodeDisk.tells in
-    let past = g.D.NodeDisk.past in
+    let facts = g.D.NodeDisk.facts in
     let queues = c.args.queues.now in
-    let logs = shown (now (past c.args.disk.now)) in
+    let logs = shown (now (facts.past c.args.disk.now)) in
     let n = c.in_ok-file.file in
     let same = c.newest_file.ensures.reads.same told in
     lanes-refused queues logs n c.in-Err.fault (c.in_ok-file.ensures.ok told listing queues)
     (ends-refused c.in-Err.fault (chain_files queues top logs n (good_length (wal queues) n (logs n)))
     (subst (λ (p : List Disk). Fails c.in-Err.fault (chain_ends queues top (shown (now p)) n
     (good_length (wal queues) n (shown (now p) n)))) same
-    (c.in-Err.ensures.gives (still tells past c.args.disk.now c.newest_file.new.disk c.newest_file.ensures.reads told)
+    (c.in-Err.ensures.gives (still facts c.args.disk.now c.newest_file.new.disk c.newest_file.ensures.reads told)
     (subst (λ (p : List Disk). IsListing (now p) c.args.names.now) (sym same) listing) queues)))
 
 pub returns-in-Ok-clause-lanes : goal.returns-in-Ok-clause-lanes
 returns-in-Ok-clause-lanes g c = λ told listing.
-    let tells = g.D.NodeDisk.tells in
-    let past = g.D.NodeDisk.past in
+    let facts = g.D.NodeDisk.facts in
     let queues = c.args.queues.now in
-    let logs = shown (now (past c.args.disk.now)) in
+    let logs = shown (now (facts.past c.args.disk.now)) in
     let n = c.in_ok-file.file in
     let is = c.in_ok-file.ensures.ok told listing queues in
     let same = c.newest_file.ensures.reads.same told in
-    let named = still tells past c.args.disk.now c.newest_file.new.disk c.newest_file.ensures.reads told in
+    let named = still facts c.args.disk.now c.newest_file.new.disk c.newest_file.ensures.reads told in
     let later = c.chain_ends.ensures.reads.same named ∙ same in
-    let ended = still tells past c.newest_file.new.disk c.chain_ends.new.disk c.chain_ends.ensures.reads named in
+    let ended = still facts c.newest_file.new.disk c.chain_ends.new.disk c.chain_ends.ensures.reads named in
     let ends = ends-are (chain_files queues top logs n (good_length (wal queues) n (logs n))) c.in-Ok.chain.items
     (subst (λ (p : List Disk). chain_ends queues top (shown (now p)) n
     (good_length (wal queues) n (shown (now p) n)) ≡ Ok c.in-Ok.chain.items) same
@@ -61,16 +59,15 @@ returns-in-Ok-clause-lanes g c = λ told listing.
 
 pub returns-in-Ok-clause-newest : goal.returns-in-Ok-clause-newest
 returns-in-Ok-clause-newest g c = λ told listing.
-    let tells = g.D.NodeDisk.tells in
-    let past = g.D.NodeDisk.past in
+    let facts = g.D.NodeDisk.facts in
     let queues = c.args.queues.now in
-    let logs = shown (now (past c.args.disk.now)) in
+    let logs = shown (now (facts.past c.args.disk.now)) in
     let n = c.in_ok-file.file in
     let is = c.in_ok-file.ensures.ok told listing queues in
     let same = c.newest_file.ensures.reads.same told in
-    let named = still tells past c.args.disk.now c.newest_file.new.disk c.newest_file.ensures.reads told in
+    let named = still facts c.args.disk.now c.newest_file.new.disk c.newest_file.ensures.reads told in
     let later = c.chain_ends.ensures.reads.same named ∙ same in
-    let ended = still tells past c.newest_file.new.disk c.chain_ends.new.disk c.chain_ends.ensures.reads named in
+    let ended = still facts c.newest_file.new.disk c.chain_ends.new.disk c.chain_ends.ensures.reads named in
     let ends = ends-are (chain_files queues top logs n (good_length (wal queues) n (logs n))) c.in-Ok.chain.items
     (subst (λ (p : List Disk). chain_ends queues top (shown (now p)) n
     (good_length (wal queues) n (shown (now p) n)) ≡ Ok c.in-Ok.chain.items) same
@@ -85,16 +82,15 @@ returns-in-Ok-clause-newest g c = λ told listing.
 
 pub returns-in-Ok-clause-ranges : goal.returns-in-Ok-clause-ranges
 returns-in-Ok-clause-ranges g c = λ told listing.
-    let tells = g.D.NodeDisk.tells in
-    let past = g.D.NodeDisk.past in
+    let facts = g.D.NodeDisk.facts in
     let queues = c.args.queues.now in
-    let logs = shown (now (past c.args.disk.now)) in
+    let logs = shown (now (facts.past c.args.disk.now)) in
     let n = c.in_ok-file.file in
     let is = c.in_ok-file.ensures.ok told listing queues in
     let same = c.newest_file.ensures.reads.same told in
-    let named = still tells past c.args.disk.now c.newest_file.new.disk c.newest_file.ensures.reads told in
+    let named = still facts c.args.disk.now c.newest_file.new.disk c.newest_file.ensures.reads told in
     let later = c.chain_ends.ensures.reads.same named ∙ same in
-    let ended = still tells past c.newest_file.new.disk c.chain_ends.new.disk c.chain_ends.ensures.reads named in
+    let ended = still facts c.newest_file.new.disk c.chain_ends.new.disk c.chain_ends.ensures.reads named in
     let ends = ends-are (chain_files queues top logs n (good_length (wal queues) n (logs n))) c.in-Ok.chain.items
     (subst (λ (p : List Disk). chain_ends queues top (shown (now p)) n
     (good_length (wal queues) n (shown (now p) n)) ≡ Ok c.in-Ok.chain.items) same
@@ -108,16 +104,15 @@ returns-in-Ok-clause-ranges g c = λ told listing.
 
 pub returns-in-Ok-clause-chain : goal.returns-in-Ok-clause-chain
 returns-in-Ok-clause-chain g c = λ told listing.
-    let tells = g.D.NodeDisk.tells in
-    let past = g.D.NodeDisk.past in
+    let facts = g.D.NodeDisk.facts in
     let queues = c.args.queues.now in
-    let logs = shown (now (past c.args.disk.now)) in
+    let logs = shown (now (facts.past c.args.disk.now)) in
     let n = c.in_ok-file.file in
     let is = c.in_ok-file.ensures.ok told listing queues in
     let same = c.newest_file.ensures.reads.same told in
-    let named = still tells past c.args.disk.now c.newest_file.new.disk c.newest_file.ensures.reads told in
+    let named = still facts c.args.disk.now c.newest_file.new.disk c.newest_file.ensures.reads told in
     let later = c.chain_ends.ensures.reads.same named ∙ same in
-    let ended = still tells past c.newest_file.new.disk c.chain_ends.new.disk c.chain_ends.ensures.reads named in
+    let ended = still facts c.newest_file.new.disk c.chain_ends.new.disk c.chain_ends.ensures.reads named in
     let ends = ends-are (chain_files queues top logs n (good_length (wal queues) n (logs n))) c.in-Ok.chain.items
     (subst (λ (p : List Disk). chain_ends queues top (shown (now p)) n
     (good_length (wal queues) n (shown (now p) n)) ≡ Ok c.in-Ok.chain.items) same

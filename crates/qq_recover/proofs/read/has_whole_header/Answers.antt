@@ -8,7 +8,7 @@ use Rattle.qq_recover.proofs.read.has_whole_header.Goals as goal
 
 pub returns-clause-ok : goal.returns-clause-ok
 returns-clause-ok g c = λ told.
-    let d = now (g.D.NodeDisk.past c.args.disk.now) in
+    let d = now (g.D.NodeDisk.facts.past c.args.disk.now) in
     c.is_whole_header.ensures
     ∙ ap (λ (bs : List ℕ). is_some (read_whole_header bs))
     (c.split_at.ensures.front ∙ ap (take c.in_ok-count.count) c.as_slice.ensures)

@@ -11,7 +11,7 @@ use Rattle.qq_recover.proofs.read.newest_file.Goals as goal
 
 pub returns-clause-ok : goal.returns-clause-ok
 returns-clause-ok g c = λ told listing queues.
-    let d = now (g.D.NodeDisk.past c.args.disk.now) in
+    let d = now (g.D.NodeDisk.facts.past c.args.disk.now) in
     let over : length c.args.names.now ≤ c.loop-name.name-index = omega arith in
     let is : c.loop-name.newest ≡ newest_of (has_log (shown d)) 0 c.args.names.now =
     sym (ap (λ (names : List FileName). newest_of (has_log (shown d)) c.loop-name.newest names)

@@ -18,7 +18,7 @@ use Rattle.qq_recover.proofs.recovery.begin_behind.Goals as goal
 
 pub remove_unread-requires-clause-outside : goal.remove_unread-requires-clause-outside
 remove_unread-requires-clause-outside g c = λ there m none apart.
-    let past = g.D.NodeDisk.past in
+    let past = g.D.NodeDisk.facts.past in
     let b = c.in-Ok-begin.ensures in
     let w = c.in-Ok-begin.wal in
     let d = now (past w.disk) in
@@ -38,8 +38,7 @@ remove_unread-requires-clause-outside g c = λ there m none apart.
 
 pub returns-in-Ok-remove_unread-clause-stays : goal.returns-in-Ok-remove_unread-clause-stays
 returns-in-Ok-remove_unread-clause-stays g c = λ told.
-    let tells = g.D.NodeDisk.tells in
-    let past = g.D.NodeDisk.past in
+    let past = g.D.NodeDisk.facts.past in
     let b = c.in-Ok-begin.ensures in
     let w = c.in-Ok-begin.wal in
     let new = c.remove_unread.new.wal in
@@ -52,8 +51,7 @@ returns-in-Ok-remove_unread-clause-stays g c = λ told.
 
 pub returns-in-Ok-remove_unread-clause-holds : goal.returns-in-Ok-remove_unread-clause-holds
 returns-in-Ok-remove_unread-clause-holds g c = λ told given held.
-    let tells = g.D.NodeDisk.tells in
-    let past = g.D.NodeDisk.past in
+    let past = g.D.NodeDisk.facts.past in
     let b = c.in-Ok-begin.ensures in
     let w = c.in-Ok-begin.wal in
     let new = c.remove_unread.new.wal in
@@ -67,23 +65,21 @@ returns-in-Ok-remove_unread-clause-holds g c = λ told given held.
 
 pub returns-in-Ok-remove_unread-clause-others : goal.returns-in-Ok-remove_unread-clause-others
 returns-in-Ok-remove_unread-clause-others g c = λ told.
-    let tells = g.D.NodeDisk.tells in
-    let past = g.D.NodeDisk.past in
+    let facts = g.D.NodeDisk.facts in
     let b = c.in-Ok-begin.ensures in
     let w = c.in-Ok-begin.wal in
     let new = c.remove_unread.new.wal in
     let k = c.remove_unread.ensures.clears in
     let there = subst (λ (t : Bool). IsTrue t) (sym b.told) told in
     let items = ap (λ (v : Vec QueueId). v.items) b.ok.queues_are ∙ c.in-Ok.ensures.items in
-    inr (cleared-behind tells past g.D.NodeDisk.faults c.args.start.names.items c.as_slice-in-Ok-begin-2.result.now
-    c.args.start.chain.items c.as_slice-in-Ok-begin.result.now c.args.disk w new c.in-Ok.queues c.args.start.header
+    inr (cleared-behind facts c.args.start.names.items c.as_slice-in-Ok-begin-2.result.now c.args.start.chain.items
+    c.as_slice-in-Ok-begin.result.now c.args.disk w new c.in-Ok.queues c.args.start.header
     c.as_slice.result.now c.as_slice-2.result.now (ranges_in c.args.start.ranges) c.args.log_bytes
     c.as_slice-in-Ok-begin-2.ensures.value c.as_slice-in-Ok-begin.ensures.value b.sound b.ok k b.told (b.beside told) told)
 
 pub returns-in-Ok-remove_unread-clause-removed : goal.returns-in-Ok-remove_unread-clause-removed
 returns-in-Ok-remove_unread-clause-removed g c = λ told file has unread.
-    let tells = g.D.NodeDisk.tells in
-    let past = g.D.NodeDisk.past in
+    let past = g.D.NodeDisk.facts.past in
     let b = c.in-Ok-begin.ensures in
     let w = c.in-Ok-begin.wal in
     let new = c.remove_unread.new.wal in
@@ -97,8 +93,7 @@ returns-in-Ok-remove_unread-clause-removed g c = λ told file has unread.
 
 pub returns-in-Ok-remove_unread-clause-may : goal.returns-in-Ok-remove_unread-clause-may
 returns-in-Ok-remove_unread-clause-may g c = λ told may.
-    let tells = g.D.NodeDisk.tells in
-    let past = g.D.NodeDisk.past in
+    let past = g.D.NodeDisk.facts.past in
     let b = c.in-Ok-begin.ensures in
     let w = c.in-Ok-begin.wal in
     let new = c.remove_unread.new.wal in
@@ -113,8 +108,7 @@ returns-in-Ok-remove_unread-clause-may g c = λ told may.
 
 pub returns-in-Ok-begin-clause-stays : goal.returns-in-Ok-begin-clause-stays
 returns-in-Ok-begin-clause-stays g c = λ told.
-    let tells = g.D.NodeDisk.tells in
-    let past = g.D.NodeDisk.past in
+    let past = g.D.NodeDisk.facts.past in
     let b = c.in-Ok-begin.ensures in
     let w = c.in-Ok-begin.wal in
     let new = c.remove_unread.new.wal in
@@ -128,26 +122,24 @@ returns-in-Ok-begin-clause-stays g c = λ told.
 
 pub returns-in-Ok-begin-clause-others : goal.returns-in-Ok-begin-clause-others
 returns-in-Ok-begin-clause-others g c = λ told.
-    let tells = g.D.NodeDisk.tells in
-    let past = g.D.NodeDisk.past in
+    let facts = g.D.NodeDisk.facts in
     let b = c.in-Ok-begin.ensures in
     let w = c.in-Ok-begin.wal in
     let new = c.remove_unread.new.wal in
     let k = c.remove_unread.ensures.clears in
     let there = subst (λ (t : Bool). IsTrue t) (sym b.told) told in
     let items = ap (λ (v : Vec QueueId). v.items) b.ok.queues_are ∙ c.in-Ok.ensures.items in
-    subst (λ (d : g.row.D.Denot). StaysBeside (log_of c.args.start.header.file) (past c.args.disk) (past d)
+    subst (λ (d : g.row.D.Denot). StaysBeside (log_of c.args.start.header.file) (facts.past c.args.disk) (facts.past d)
     ⊎ BeginsAndClears c.args.start.names.items c.args.start.chain.items (log_of c.args.start.header.file)
-    (past c.args.disk) (past d)) (sym c.into_disk.ensures)
-    (inr (cleared-behind tells past g.D.NodeDisk.faults c.args.start.names.items c.as_slice-in-Ok-begin-2.result.now
-    c.args.start.chain.items c.as_slice-in-Ok-begin.result.now c.args.disk w new c.in-Ok.queues c.args.start.header
+    (facts.past c.args.disk) (facts.past d)) (sym c.into_disk.ensures)
+    (inr (cleared-behind facts c.args.start.names.items c.as_slice-in-Ok-begin-2.result.now c.args.start.chain.items
+    c.as_slice-in-Ok-begin.result.now c.args.disk w new c.in-Ok.queues c.args.start.header
     c.as_slice.result.now c.as_slice-2.result.now (ranges_in c.args.start.ranges) c.args.log_bytes
     c.as_slice-in-Ok-begin-2.ensures.value c.as_slice-in-Ok-begin.ensures.value b.sound b.ok k b.told (b.beside told) told))
 
 pub returns-in-Ok-begin-clause-may : goal.returns-in-Ok-begin-clause-may
 returns-in-Ok-begin-clause-may g c = λ told.
-    let tells = g.D.NodeDisk.tells in
-    let past = g.D.NodeDisk.past in
+    let past = g.D.NodeDisk.facts.past in
     let b = c.in-Ok-begin.ensures in
     let w = c.in-Ok-begin.wal in
     let new = c.remove_unread.new.wal in
@@ -161,7 +153,7 @@ returns-in-Ok-begin-clause-may g c = λ told.
 
 pub returns-in-Ok-begin-clause-cause : goal.returns-in-Ok-begin-clause-cause
 returns-in-Ok-begin-clause-cause g c =
-    let faults = g.D.NodeDisk.faults in
+    let faults = g.D.NodeDisk.facts.faults in
     subst (λ (d : g.row.D.Denot). IsDiskCaused (faults c.args.disk) (faults d) c.fault_at_begin.result)
     (sym c.into_disk.ensures)
     (c.fault_at_begin.ensures (faults c.args.disk) (faults c.remove_unread.new.wal.disk)
@@ -172,17 +164,17 @@ returns-in-Ok-begin-clause-cause g c =
 
 pub returns-clause-stays : goal.returns-clause-stays
 returns-clause-stays g c = λ told.
-    let past = g.D.NodeDisk.past in
+    let past = g.D.NodeDisk.facts.past in
     subst (λ (l : List QueueId). Stays l (past c.args.disk) (past c.in-Err-begin.disk)) c.in-Ok.ensures.items
     (c.in-Err-begin.ensures.stays told)
 
 pub returns-clause-may : goal.returns-clause-may
 returns-clause-may g c = λ told.
-    let past = g.D.NodeDisk.past in
+    let past = g.D.NodeDisk.facts.past in
     subst (λ (l : List QueueId). StillMayRecover l (past c.args.disk) (past c.in-Err-begin.disk)) c.in-Ok.ensures.items
     (c.in-Err-begin.ensures.may told)
 
 pub returns-clause-cause : goal.returns-clause-cause
 returns-clause-cause g c =
-    c.fault_at_begin-in-Err-begin.ensures (g.D.NodeDisk.faults c.args.disk) (g.D.NodeDisk.faults c.in-Err-begin.disk)
-    c.in-Err-begin.ensures.cause
+    c.fault_at_begin-in-Err-begin.ensures (g.D.NodeDisk.facts.faults c.args.disk)
+    (g.D.NodeDisk.facts.faults c.in-Err-begin.disk) c.in-Err-begin.ensures.cause

@@ -15,8 +15,8 @@ use Rattle.qq_recover.proofs.recovery.recover.Goals as goal
 
 pub begin_behind-requires-clause-goes_on : goal.begin_behind-requires-clause-goes_on
 begin_behind-requires-clause-goes_on g c = λ told.
-    let past = g.D.NodeDisk.past in
-    let before : IsTrue (g.D.NodeDisk.tells c.args.disk) =
+    let past = g.D.NodeDisk.facts.past in
+    let before : IsTrue (g.D.NodeDisk.facts.tells c.args.disk) =
     subst (λ (t : Bool). IsTrue t) c.prepare.ensures.told told in
     may-begin c.args.queues.now (c.the_log_has_a_format.ensures c.args.queues.now) (now (past c.args.disk))
     (now (past c.prepare.new.disk)) c.in-Ok.start c.in-Ok.ensures.start (c.in-Ok.ensures.read before)
@@ -32,36 +32,36 @@ returns-in-Ok-clause-goes_on g c =
 
 pub returns-in-Ok-clause-begun : goal.returns-in-Ok-clause-begun
 returns-in-Ok-clause-begun g c = λ told.
-    let past = g.D.NodeDisk.past in
+    let past = g.D.NodeDisk.facts.past in
     begun-ok c.args.queues.now c.in-Ok.start c.args.log_bytes c.begin_behind.result (now (past c.args.disk))
     (now (past c.prepare.new.disk)) (c.in-Ok.ensures.read told) c.begin_behind.ensures.begun
     c.begin_behind.ensures.header
 
 pub returns-in-Ok-clause-lanes : goal.returns-in-Ok-clause-lanes
 returns-in-Ok-clause-lanes g c = λ told.
-    let past = g.D.NodeDisk.past in
+    let past = g.D.NodeDisk.facts.past in
     lanes-ok c.args.queues.now c.in-Ok.start c.args.log_bytes c.begin_behind.result
     (lanes_read c.args.queues.now (shown (now (past c.args.disk)))) (c.in-Ok.ensures.read told).lanes
     c.begin_behind.ensures.lanes
 
 pub returns-in-Ok-clause-refused : goal.returns-in-Ok-clause-refused
 returns-in-Ok-clause-refused g c = λ told.
-    let past = g.D.NodeDisk.past in
+    let past = g.D.NodeDisk.facts.past in
     err-weaker _ _ c.begin_behind.result c.begin_behind.ensures.cause
     (λ e. disk-fails _ _ e.0 (lanes_read c.args.queues.now (shown (now (past c.args.disk)))))
 
 pub returns-in-Ok-clause-stays : goal.returns-in-Ok-clause-stays
 returns-in-Ok-clause-stays g c = λ told.
-    let past = g.D.NodeDisk.past in
+    let past = g.D.NodeDisk.facts.past in
     stays-then c.args.queues.now (past c.args.disk) (past c.prepare.new.disk) (past (disk_of c.begin_behind.result))
     (c.prepare.ensures.stays told)
     (c.begin_behind.ensures.stays (subst (λ (t : Bool). IsTrue t) (sym c.prepare.ensures.told) told))
 
 pub returns-in-Ok-clause-settles : goal.returns-in-Ok-clause-settles
 returns-in-Ok-clause-settles g c = λ told noticed given keeps.
-    let past = g.D.NodeDisk.past in
+    let past = g.D.NodeDisk.facts.past in
     let queues = c.args.queues.now in
-    let later : IsTrue (g.D.NodeDisk.tells c.prepare.new.disk) =
+    let later : IsTrue (g.D.NodeDisk.facts.tells c.prepare.new.disk) =
     subst (λ (t : Bool). IsTrue t) (sym c.prepare.ensures.told) told in
     let read = c.in-Ok.ensures.read told in
     let on : SettlesOn queues top noticed given (now (past c.prepare.new.disk)) =
@@ -86,11 +86,11 @@ returns-in-Ok-clause-never_refused g c = λ told noticed given keeps.
 pub returns-in-Ok-clause-spent : goal.returns-in-Ok-clause-spent
 returns-in-Ok-clause-spent g c = λ told.
     err-weaker _ _ c.begin_behind.result c.begin_behind.ensures.cause
-    (λ e. disk-unspent _ _ (now (g.D.NodeDisk.past c.args.disk)) e.0)
+    (λ e. disk-unspent _ _ (now (g.D.NodeDisk.facts.past c.args.disk)) e.0)
 
 pub returns-in-Ok-clause-end : goal.returns-in-Ok-clause-end
 returns-in-Ok-clause-end g c = λ told number end listed.
-    let past = g.D.NodeDisk.past in
+    let past = g.D.NodeDisk.facts.past in
     never-ok c.begin_behind.result
     (none-at-end c.args.queues.now (c.the_log_has_a_format.ensures c.args.queues.now) (now (past c.args.disk))
     (now (past c.prepare.new.disk)) c.in-Ok.start c.in-Ok.ensures.start (c.in-Ok.ensures.read told) number end listed)
@@ -98,14 +98,14 @@ returns-in-Ok-clause-end g c = λ told number end listed.
 pub returns-in-Err-clause-never_refused : goal.returns-in-Err-clause-never_refused
 returns-in-Err-clause-never_refused g c = λ told noticed given keeps.
     let queues = c.args.queues.now in
-    let d = now (g.D.NodeDisk.past c.args.disk) in
+    let d = now (g.D.NodeDisk.facts.past c.args.disk) in
     let r = readable queues (c.the_log_has_a_format.ensures queues) noticed given d keeps in
     no-refusal c.in-Err.fault (lanes_read queues (shown d)) r.lanes r.read (c.in-Err.ensures.lanes told)
 
 pub begin_behind-requires-clause-chain : goal.begin_behind-requires-clause-chain
 begin_behind-requires-clause-chain g c = λ told.
-    let past = g.D.NodeDisk.past in
-    let before : IsTrue (g.D.NodeDisk.tells c.args.disk) =
+    let past = g.D.NodeDisk.facts.past in
+    let before : IsTrue (g.D.NodeDisk.facts.tells c.args.disk) =
     subst (λ (t : Bool). IsTrue t) c.prepare.ensures.told told in
     same-numbers c.args.queues.now (c.the_log_has_a_format.ensures c.args.queues.now) (now (past c.args.disk))
     (now (past c.prepare.new.disk)) c.in-Ok.start c.in-Ok.ensures.start (c.in-Ok.ensures.read before)
@@ -117,7 +117,7 @@ returns-in-Ok-clause-may g c = λ told may.
 
 pub returns-in-Ok-clause-removed : goal.returns-in-Ok-clause-removed
 returns-in-Ok-clause-removed g c = λ told.
-    let past = g.D.NodeDisk.past in
+    let past = g.D.NodeDisk.facts.past in
     let read = c.in-Ok.ensures.read told in
     on_ok_weaker c.begin_behind.result
     (λ gone file unread. (let is = unread-is c.args.queues.now (past c.args.disk) (past c.prepare.new.disk)
@@ -127,7 +127,7 @@ returns-in-Ok-clause-removed g c = λ told.
 
 pub returns-in-Ok-clause-others : goal.returns-in-Ok-clause-others
 returns-in-Ok-clause-others g c = λ told.
-    let past = g.D.NodeDisk.past in
+    let past = g.D.NodeDisk.facts.past in
     let start = c.in-Ok.ensures.start in
     let read = c.in-Ok.ensures.read told in
     inr (others-begun c.args.queues.now (past c.args.disk) (past c.prepare.new.disk)

@@ -15,24 +15,23 @@ use Rattle.qq_recover.proofs.replay.replay_chain.Given as goal
 -- the files that were passed are the last, and with the others they come to what all come to
 abbrev pub invariant-files : goal.invariant-files
 invariant-files g l =
-    let tells = g.D.NodeDisk.tells in
-    let past = g.D.NodeDisk.past in
+    let facts = g.D.NodeDisk.facts in
     record {
       within : l.left ≤ length l.chain;
       lists : (queues : List QueueId) → Lists queues l.fn.table → Lists queues l.table;
       gives :
-          IsTrue (tells l.fn.disk) → (queues : List QueueId) (files : List ChainFile) → Lists queues l.fn.table
+          IsTrue (facts.tells l.fn.disk) → (queues : List QueueId) (files : List ChainFile) → Lists queues l.fn.table
           → map end_of_file files ≡ l.chain
-          → AllByRecursion (IsReadAgain queues (shown (now (past l.fn.disk)))) files
+          → AllByRecursion (IsReadAgain queues (shown (now (facts.past l.fn.disk)))) files
           → replay_files queues (take l.left files) (lanes_of l.table)
           ≡ replay_files queues files (lanes_of l.fn.table);
       ranges :
-          IsTrue (tells l.fn.disk) → (queues : List QueueId) (files : List ChainFile)
+          IsTrue (facts.tells l.fn.disk) → (queues : List QueueId) (files : List ChainFile)
           → map end_of_file files ≡ l.chain
-          → AllByRecursion (IsReadAgain queues (shown (now (past l.fn.disk)))) files
+          → AllByRecursion (IsReadAgain queues (shown (now (facts.past l.fn.disk)))) files
           → ranges_in l.ranges ≡ find_files (drop l.left files) (ranges_in l.fn.ranges);
-      reads : OnlyReads tells past l.fn.disk l.disk;
-      later : g.D.NodeDisk.faults l.fn.disk ≤ g.D.NodeDisk.faults l.disk;
+      reads : OnlyReads facts l.fn.disk l.disk;
+      later : facts.faults l.fn.disk ≤ facts.faults l.disk;
     }
 
 abbrev pub decreases-files : goal.decreases-files

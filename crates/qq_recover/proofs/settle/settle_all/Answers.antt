@@ -8,14 +8,14 @@ use Rattle.qq_recover.proofs.settle.settle_all.Goals as goal
 
 pub returns-in_err-sync_one-clause-stays : goal.returns-in_err-sync_one-clause-stays
 returns-in_err-sync_one-clause-stays g c = λ told queues.
-    let past = g.D.NodeDisk.past in
+    let past = g.D.NodeDisk.facts.past in
     stays-then queues (past c.args.disk.now) (past c.loop-name.disk) (past c.sync_one.new.disk)
     (c.loop-name.invariant.stays told queues)
     (c.sync_one.ensures.stays (subst (λ (t : Bool). IsTrue t) (sym c.loop-name.invariant.told) told) queues)
 
 pub returns-in_err-sync_one-clause-only : goal.returns-in_err-sync_one-clause-only
 returns-in_err-sync_one-clause-only g c = λ told.
-    let past = g.D.NodeDisk.past in
+    let past = g.D.NodeDisk.facts.past in
     only-then (past c.args.disk.now) (past c.loop-name.disk) (past c.sync_one.new.disk)
     (c.loop-name.invariant.only told)
     (c.sync_one.ensures.only (subst (λ (t : Bool). IsTrue t) (sym c.loop-name.invariant.told) told))
@@ -27,7 +27,7 @@ returns-in_err-sync_one-clause-may g c = λ told queues may.
 
 pub loop-name-preserved : goal.loop-name-preserved
 loop-name-preserved g c =
-    let past = g.D.NodeDisk.past in
+    let past = g.D.NodeDisk.facts.past in
     let within : c.loop-name.name-index < length c.args.names.now = omega arith in
     record {
       rest = λ told.

@@ -12,7 +12,7 @@ use Rattle.qq_recover.proofs.start.prepare.Goals as goal
 
 pub returns-in-Err-clause-stays : goal.returns-in-Err-clause-stays
 returns-in-Err-clause-stays g c = λ told.
-    let past = g.D.NodeDisk.past in
+    let past = g.D.NodeDisk.facts.past in
     prepared-stays c.args.queues.now (past c.args.disk.now) (past c.names.new.self) (past c.settle_all.new.disk)
     (past c.settle_all.new.disk) (c.names.ensures.same told)
     (c.settle_all.ensures.stays (subst (λ (t : Bool). IsTrue t) (sym c.names.ensures.told) told) c.args.queues.now) refl
@@ -20,7 +20,7 @@ returns-in-Err-clause-stays g c = λ told.
 pub returns-in_err-start_behind-in-Ok-clause-stays :
     goal.returns-in_err-start_behind-in-Ok-clause-stays
 returns-in_err-start_behind-in-Ok-clause-stays g c = λ told.
-    let past = g.D.NodeDisk.past in
+    let past = g.D.NodeDisk.facts.past in
     let named = subst (λ (t : Bool). IsTrue t) (sym c.names.ensures.told) told in
     let settled = subst (λ (t : Bool). IsTrue t) (sym c.settle_all.ensures.told) named in
     prepared-stays c.args.queues.now (past c.args.disk.now) (past c.names.new.self) (past c.settle_all.new.disk)
@@ -30,7 +30,7 @@ returns-in_err-start_behind-in-Ok-clause-stays g c = λ told.
 pub returns-in_ok-start_behind-in-Ok-clause-stays :
     goal.returns-in_ok-start_behind-in-Ok-clause-stays
 returns-in_ok-start_behind-in-Ok-clause-stays g c = λ told.
-    let past = g.D.NodeDisk.past in
+    let past = g.D.NodeDisk.facts.past in
     let named = subst (λ (t : Bool). IsTrue t) (sym c.names.ensures.told) told in
     let settled = subst (λ (t : Bool). IsTrue t) (sym c.settle_all.ensures.told) named in
     prepared-stays c.args.queues.now (past c.args.disk.now) (past c.names.new.self) (past c.settle_all.new.disk)
@@ -39,7 +39,7 @@ returns-in_ok-start_behind-in-Ok-clause-stays g c = λ told.
 
 pub returns-in-Err-read_log-clause-stays : goal.returns-in-Err-read_log-clause-stays
 returns-in-Err-read_log-clause-stays g c = λ told.
-    let past = g.D.NodeDisk.past in
+    let past = g.D.NodeDisk.facts.past in
     let named = subst (λ (t : Bool). IsTrue t) (sym c.names.ensures.told) told in
     let settled = subst (λ (t : Bool). IsTrue t) (sym c.settle_all.ensures.told) named in
     prepared-stays c.args.queues.now (past c.args.disk.now) (past c.names.new.self) (past c.settle_all.new.disk)
@@ -49,7 +49,7 @@ returns-in-Err-read_log-clause-stays g c = λ told.
 pub returns-in_ok-start_behind-in-Ok-clause-read :
     goal.returns-in_ok-start_behind-in-Ok-clause-read
 returns-in_ok-start_behind-in-Ok-clause-read g c = λ told.
-    let past = g.D.NodeDisk.past in
+    let past = g.D.NodeDisk.facts.past in
     let named = subst (λ (t : Bool). IsTrue t) (sym c.names.ensures.told) told in
     let settled = subst (λ (t : Bool). IsTrue t) (sym c.settle_all.ensures.told) named in
     let names : List FileName = c.in_ok-names.names.items in
@@ -77,7 +77,7 @@ returns-in_ok-start_behind-in-Ok-clause-lanes g c = λ told.
 
 pub returns-in-Err-read_log-clause-lanes : goal.returns-in-Err-read_log-clause-lanes
 returns-in-Err-read_log-clause-lanes g c = λ told.
-    let past = g.D.NodeDisk.past in
+    let past = g.D.NodeDisk.facts.past in
     let named = subst (λ (t : Bool). IsTrue t) (sym c.names.ensures.told) told in
     let settled = subst (λ (t : Bool). IsTrue t) (sym c.settle_all.ensures.told) named in
     let names : List FileName = c.in_ok-names.names.items in
@@ -95,14 +95,14 @@ returns-in-Err-read_log-clause-lanes g c = λ told.
 
 pub returns-in-Err-clause-may : goal.returns-in-Err-clause-may
 returns-in-Err-clause-may g c = λ told.
-    let past = g.D.NodeDisk.past in
+    let past = g.D.NodeDisk.facts.past in
     let named = subst (λ (t : Bool). IsTrue t) (sym c.names.ensures.told) told in
     may-through c.args.queues.now (past c.args.disk.now) (past c.names.new.self) (past c.settle_all.new.disk)
     (past c.settle_all.new.disk) (c.names.ensures.same told) (c.settle_all.ensures.may named c.args.queues.now) refl
 
 pub returns-in_err-start_behind-in-Ok-clause-may : goal.returns-in_err-start_behind-in-Ok-clause-may
 returns-in_err-start_behind-in-Ok-clause-may g c = λ told.
-    let past = g.D.NodeDisk.past in
+    let past = g.D.NodeDisk.facts.past in
     let named = subst (λ (t : Bool). IsTrue t) (sym c.names.ensures.told) told in
     let settled = subst (λ (t : Bool). IsTrue t) (sym c.settle_all.ensures.told) named in
     may-through c.args.queues.now (past c.args.disk.now) (past c.names.new.self) (past c.settle_all.new.disk)
@@ -110,7 +110,7 @@ returns-in_err-start_behind-in-Ok-clause-may g c = λ told.
 
 pub returns-in_ok-start_behind-in-Ok-clause-may : goal.returns-in_ok-start_behind-in-Ok-clause-may
 returns-in_ok-start_behind-in-Ok-clause-may g c = λ told.
-    let past = g.D.NodeDisk.past in
+    let past = g.D.NodeDisk.facts.past in
     let named = subst (λ (t : Bool). IsTrue t) (sym c.names.ensures.told) told in
     let settled = subst (λ (t : Bool). IsTrue t) (sym c.settle_all.ensures.told) named in
     may-through c.args.queues.now (past c.args.disk.now) (past c.names.new.self) (past c.settle_all.new.disk)
@@ -118,7 +118,7 @@ returns-in_ok-start_behind-in-Ok-clause-may g c = λ told.
 
 pub returns-in-Err-read_log-clause-may : goal.returns-in-Err-read_log-clause-may
 returns-in-Err-read_log-clause-may g c = λ told.
-    let past = g.D.NodeDisk.past in
+    let past = g.D.NodeDisk.facts.past in
     let named = subst (λ (t : Bool). IsTrue t) (sym c.names.ensures.told) told in
     let settled = subst (λ (t : Bool). IsTrue t) (sym c.settle_all.ensures.told) named in
     may-through c.args.queues.now (past c.args.disk.now) (past c.names.new.self) (past c.settle_all.new.disk)
@@ -126,14 +126,14 @@ returns-in-Err-read_log-clause-may g c = λ told.
 
 pub returns-in-Err-clause-only : goal.returns-in-Err-clause-only
 returns-in-Err-clause-only g c = λ told.
-    let past = g.D.NodeDisk.past in
+    let past = g.D.NodeDisk.facts.past in
     let named = subst (λ (t : Bool). IsTrue t) (sym c.names.ensures.told) told in
     only-through (past c.args.disk.now) (past c.names.new.self) (past c.settle_all.new.disk)
     (past c.settle_all.new.disk) (c.names.ensures.same told) (c.settle_all.ensures.only named) refl
 
 pub returns-in_err-start_behind-in-Ok-clause-only : goal.returns-in_err-start_behind-in-Ok-clause-only
 returns-in_err-start_behind-in-Ok-clause-only g c = λ told.
-    let past = g.D.NodeDisk.past in
+    let past = g.D.NodeDisk.facts.past in
     let named = subst (λ (t : Bool). IsTrue t) (sym c.names.ensures.told) told in
     let settled = subst (λ (t : Bool). IsTrue t) (sym c.settle_all.ensures.told) named in
     only-through (past c.args.disk.now) (past c.names.new.self) (past c.settle_all.new.disk)
@@ -141,7 +141,7 @@ returns-in_err-start_behind-in-Ok-clause-only g c = λ told.
 
 pub returns-in_ok-start_behind-in-Ok-clause-only : goal.returns-in_ok-start_behind-in-Ok-clause-only
 returns-in_ok-start_behind-in-Ok-clause-only g c = λ told.
-    let past = g.D.NodeDisk.past in
+    let past = g.D.NodeDisk.facts.past in
     let named = subst (λ (t : Bool). IsTrue t) (sym c.names.ensures.told) told in
     let settled = subst (λ (t : Bool). IsTrue t) (sym c.settle_all.ensures.told) named in
     only-through (past c.args.disk.now) (past c.names.new.self) (past c.settle_all.new.disk)
@@ -149,7 +149,7 @@ returns-in_ok-start_behind-in-Ok-clause-only g c = λ told.
 
 pub returns-in-Err-read_log-clause-only : goal.returns-in-Err-read_log-clause-only
 returns-in-Err-read_log-clause-only g c = λ told.
-    let past = g.D.NodeDisk.past in
+    let past = g.D.NodeDisk.facts.past in
     let named = subst (λ (t : Bool). IsTrue t) (sym c.names.ensures.told) told in
     let settled = subst (λ (t : Bool). IsTrue t) (sym c.settle_all.ensures.told) named in
     only-through (past c.args.disk.now) (past c.names.new.self) (past c.settle_all.new.disk)

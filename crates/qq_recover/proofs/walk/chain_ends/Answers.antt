@@ -14,22 +14,21 @@ pub files-init : goal.files-init
 files-init g c =
     record {
       gives = λ told listing queues.
-          way-begins queues (shown (now (g.D.NodeDisk.past c.args.disk.now))) c.args.newest c.new-ends.result.items
-          c.new-ends.ensures.items;
-      reads = reads-none g.D.NodeDisk.tells g.D.NodeDisk.past c.args.disk.now;
+          way-begins queues (shown (now (g.D.NodeDisk.facts.past c.args.disk.now))) c.args.newest
+          c.new-ends.result.items c.new-ends.ensures.items;
+      reads = reads-none g.D.NodeDisk.facts c.args.disk.now;
       later = omega arith;
       within = in_top c.args.newest (search rules);
     }
 
 pub returns-in_default-clause-gives : goal.returns-in_default-clause-gives
 returns-in_default-clause-gives g c = λ told listing queues.
-    let tells = g.D.NodeDisk.tells in
-    let past = g.D.NodeDisk.past in
-    let logs = shown (now (past c.args.disk.now)) in
+    let facts = g.D.NodeDisk.facts in
+    let logs = shown (now (facts.past c.args.disk.now)) in
     let same = c.files.invariant.reads.same told in
     let here : logs c.files.number ≡ None =
     sym (subst (λ (p : List Disk). option_map (λ b. b.items) c.in_ok-bytes.field-0 ≡ shown (now p) c.files.number)
-    same (c.in_ok-bytes.ensures.ok (still tells past c.args.disk.now c.files.disk c.files.invariant.reads told)
+    same (c.in_ok-bytes.ensures.ok (still facts c.args.disk.now c.files.disk c.files.invariant.reads told)
     (subst (λ (p : List Disk). IsListing (now p) c.args.names.now) (sym same) listing)))
     ∙ ap (option_map (λ b. b.items)) c.in_default.is in
     ends-absent queues logs c.args.newest c.files.ends.items c.files.number c.files.good (omega arith)
@@ -37,13 +36,12 @@ returns-in_default-clause-gives g c = λ told listing queues.
 
 pub returns-in-Err-clause-gives : goal.returns-in-Err-clause-gives
 returns-in-Err-clause-gives g c = λ told listing queues.
-    let tells = g.D.NodeDisk.tells in
-    let past = g.D.NodeDisk.past in
-    let logs = shown (now (past c.args.disk.now)) in
+    let facts = g.D.NodeDisk.facts in
+    let logs = shown (now (facts.past c.args.disk.now)) in
     let same = c.files.invariant.reads.same told in
     let here : logs c.files.number ≡ Some c.in-Some.bytes.items =
     sym (subst (λ (p : List Disk). option_map (λ b. b.items) c.in_ok-bytes.field-0 ≡ shown (now p) c.files.number)
-    same (c.in_ok-bytes.ensures.ok (still tells past c.args.disk.now c.files.disk c.files.invariant.reads told)
+    same (c.in_ok-bytes.ensures.ok (still facts c.args.disk.now c.files.disk c.files.invariant.reads told)
     (subst (λ (p : List Disk). IsListing (now p) c.args.names.now) (sym same) listing)))
     ∙ ap (option_map (λ b. b.items)) c.in-Some.is in
     ends-refuse queues logs c.args.newest c.files.ends.items c.files.number c.files.good (omega arith)
@@ -63,13 +61,12 @@ files-preserved g c =
     c.in-Ok.header c.in-Ok.file (c.in-Ok.ensures.gives []) in
     record {
       gives = λ told listing queues.
-          let tells = g.D.NodeDisk.tells in
-          let past = g.D.NodeDisk.past in
-          let logs = shown (now (past c.args.disk.now)) in
+          let facts = g.D.NodeDisk.facts in
+          let logs = shown (now (facts.past c.args.disk.now)) in
           let same = c.files.invariant.reads.same told in
           let here : logs c.files.number ≡ Some c.in-Some.bytes.items =
           sym (subst (λ (p : List Disk). option_map (λ b. b.items) c.in_ok-bytes.field-0 ≡ shown (now p) c.files.number)
-          same (c.in_ok-bytes.ensures.ok (still tells past c.args.disk.now c.files.disk c.files.invariant.reads told)
+          same (c.in_ok-bytes.ensures.ok (still facts c.args.disk.now c.files.disk c.files.invariant.reads told)
           (subst (λ (p : List Disk). IsListing (now p) c.args.names.now) (sym same) listing)))
           ∙ ap (option_map (λ b. b.items)) c.in-Some.is in
           ends-on queues logs c.args.newest c.files.ends.items c.files.number c.files.good (omega arith)
@@ -79,13 +76,13 @@ files-preserved g c =
           ≡ Ok (c.in-Ok.header, c.in-Ok.file)) c.deref.ensures.value (c.in-Ok.ensures.gives queues))
           (c.in_ok-push-in-Ok.ensures.items
           ∙ ap (λ (end : End). c.files.ends.items ++ end ∷ []) c.new.ensures);
-      reads = reads-then g.D.NodeDisk.tells g.D.NodeDisk.past c.args.disk.now c.files.disk c.read_listed.new.disk
-          c.files.invariant.reads c.read_listed.ensures.reads;
+      reads = reads-then g.D.NodeDisk.facts c.args.disk.now c.files.disk c.read_listed.new.disk c.files.invariant.reads
+          c.read_listed.ensures.reads;
       later = omega (arith, c.files.invariant.later, c.read_listed.ensures.cause.later);
       within = omega (arith, back, c.files.invariant.within);
     }
 
 pub returns-clause-gives : goal.returns-clause-gives
 returns-clause-gives g c = λ told listing queues.
-    ends-over queues (shown (now (g.D.NodeDisk.past c.args.disk.now))) c.args.newest c.files.ends.items
+    ends-over queues (shown (now (g.D.NodeDisk.facts.past c.args.disk.now))) c.args.newest c.files.ends.items
     c.files.number c.files.good (c.files.invariant.gives told listing queues) (omega arith)

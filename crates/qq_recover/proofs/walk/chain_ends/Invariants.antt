@@ -9,14 +9,13 @@ use Rattle.qq_recover.proofs.walk.chain_ends.Given as goal
 
 abbrev pub invariant-files : goal.invariant-files
 invariant-files g l =
-    let tells = g.D.NodeDisk.tells in
-    let past = g.D.NodeDisk.past in
+    let facts = g.D.NodeDisk.facts in
     record {
       gives :
-          IsTrue (tells l.fn.disk) → IsListing (now (past l.fn.disk)) l.names → (queues : List QueueId)
-          → OnTheWay queues (shown (now (past l.fn.disk))) l.newest l.ends.items l.number l.good;
-      reads : OnlyReads tells past l.fn.disk l.disk;
-      later : g.D.NodeDisk.faults l.fn.disk ≤ g.D.NodeDisk.faults l.disk;
+          IsTrue (facts.tells l.fn.disk) → IsListing (now (facts.past l.fn.disk)) l.names → (queues : List QueueId)
+          → OnTheWay queues (shown (now (facts.past l.fn.disk))) l.newest l.ends.items l.number l.good;
+      reads : OnlyReads facts l.fn.disk l.disk;
+      later : facts.faults l.fn.disk ≤ facts.faults l.disk;
       within : l.number ≤ top;
     }
 

@@ -13,14 +13,14 @@ returns-clause-sound g c = λ w d is tells same. record {
   counted = is.counted;
   named = is.named;
   on_disk = λ told going.
-      beside-on_disk w.queues.items (now (g.D.NodeDisk.past w.disk)) (now (g.D.NodeDisk.past d)) same w.header w.marks
-      w.size w.numbers (is.on_disk (told_before tells told) going);
+      beside-on_disk w.queues.items (now (g.D.NodeDisk.facts.past w.disk)) (now (g.D.NodeDisk.facts.past d))
+      same w.header w.marks w.size w.numbers (is.on_disk (told_before tells told) going);
   synced = λ told going clean.
-      beside-synced w.queues.items (now (g.D.NodeDisk.past w.disk)) (now (g.D.NodeDisk.past d)) same w.header
-      (is.synced (told_before tells told) going clean);
+      beside-synced w.queues.items (now (g.D.NodeDisk.facts.past w.disk))
+      (now (g.D.NodeDisk.facts.past d)) same w.header (is.synced (told_before tells told) going clean);
   kept = λ told going.
-      beside-kept w.queues.items (now (g.D.NodeDisk.past w.disk)) (now (g.D.NodeDisk.past d)) same w.header w.marks
-      (is.kept (told_before tells told) going);
+      beside-kept w.queues.items (now (g.D.NodeDisk.facts.past w.disk)) (now (g.D.NodeDisk.facts.past d))
+      same w.header w.marks (is.kept (told_before tells told) going);
 }
 
 pub returns-clause-promise : goal.returns-clause-promise

@@ -10,8 +10,8 @@ use Rattle.qq_broker.proofs.broker.Broker.call.Goals as goal
 pub hear_call-called-requires-clause-queue : goal.hear_call-called-requires-clause-queue
 hear_call-called-requires-clause-queue g c =
     let disk = g.D.NodeDisk in
-    queue-there c.requires.0 disk.tells disk.past disk.faults c.args.self.now.setup c.requires.1.0 c.args.self.now.nodes
-    c.args.queue c.requires.1.1.holds c.requires.1.2.1
+    queue-there c.requires.0 disk.facts c.args.self.now.setup c.requires.1.0 c.args.self.now.nodes c.args.queue
+    c.requires.1.1.holds c.requires.1.2.1
 
 pub returns-clause-ok : goal.returns-clause-ok
 returns-clause-ok g c = λ given run so.
@@ -19,8 +19,8 @@ returns-clause-ok g c = λ given run so.
     let old = c.args.self.now in
     let new = record old { nodes = c.hear_call-called.new.nodes } in
     IfOk-weaker c.hear_call-called.result _ _
-    (λ called call. has-called given disk.tells disk.past disk.faults run
-    c.who_listens_hears_what_is_told.ensures.heard c.who_listens_hears_what_is_told.ensures.held old new c.args.session
+    (λ called call. has-called given disk.facts run c.who_listens_hears_what_is_told.ensures.heard
+    c.who_listens_hears_what_is_told.ensures.held old new c.args.session
     c.args.queue c.args.body c.args.takers.now c.hear_on.new.self c.lend-told.result c.hear_call-called.new.told called so
     refl refl
     (ap (λ (o : Outcome). o.takers) c.lend-told.ensures ∙ c.hear_on-before.ensures.rest
@@ -33,5 +33,5 @@ pub returns-clause-cause : goal.returns-clause-cause
 returns-clause-cause g c = λ given run so.
     (let disk = g.D.NodeDisk in
     IfErr-weaker c.hear_call-called.result _ _
-    (λ memory stops. call-given-up given disk.tells disk.past disk.faults run c.args.self.now.setup c.args.session.number
-    c.args.body c.args.queue.0 c.args.self.now.nodes memory so.holds stops) c.hear_call-called.ensures.err)
+    (λ memory stops. call-given-up given disk.facts run c.args.self.now.setup c.args.session.number c.args.body
+    c.args.queue.0 c.args.self.now.nodes memory so.holds stops) c.hear_call-called.ensures.err)

@@ -8,11 +8,11 @@ use Rattle.qq_node_log.proofs.node_log.NodeLog.append.Goals as goal
 
 pub returns-clause-same : goal.returns-clause-same
 returns-clause-same g c =
-    subst (λ (log : NodeLog _). KeepsDisk g.D.NodeDisk.tells g.D.NodeDisk.past g.D.NodeDisk.faults log
-    (Open c.append_open.new.wal)) (sym c.in-Open.is) c.append_open.ensures.same
+    subst (λ (log : NodeLog _). KeepsDisk g.D.NodeDisk.facts log (Open c.append_open.new.wal)) (sym c.in-Open.is)
+    c.append_open.ensures.same
 
 pub returns-clause-ok : goal.returns-clause-ok
 returns-clause-ok g c =
     subst (λ (log : NodeLog _). IfOk c.append_open.result (λ (more : Bool). more ≡ true
-    → RunsOn g.D.NodeDisk.tells g.D.NodeDisk.past (λ (lot : Lot). give_batch lot c.args.ops.items) log
-    (Open c.append_open.new.wal))) (sym c.in-Open.is) c.append_open.ensures.ok
+    → RunsOn g.D.NodeDisk.facts (λ (lot : Lot). give_batch lot c.args.ops.items) log (Open c.append_open.new.wal)))
+    (sym c.in-Open.is) c.append_open.ensures.ok

@@ -7,10 +7,10 @@ use Rattle.qq_node_log.proofs.node_log.NodeLog.sync.Goals as goal
 
 pub returns-clause-same : goal.returns-clause-same
 returns-clause-same g c =
-    subst (λ (log : NodeLog _). KeepsDisk g.D.NodeDisk.tells g.D.NodeDisk.past g.D.NodeDisk.faults log
-    (Open c.sync_open.new.wal)) (sym c.in-Open.is) c.sync_open.ensures.same
+    subst (λ (log : NodeLog _). KeepsDisk g.D.NodeDisk.facts log (Open c.sync_open.new.wal)) (sym c.in-Open.is)
+    c.sync_open.ensures.same
 
 pub returns-clause-moments : goal.returns-clause-moments
 returns-clause-moments g c =
-    subst (λ (log : NodeLog _). CallKeeps g.D.NodeDisk.tells g.D.NodeDisk.past (λ (lot : Lot) (parts : Parts). parts) log
+    subst (λ (log : NodeLog _). CallKeeps g.D.NodeDisk.facts (λ (lot : Lot) (parts : Parts). parts) log
     (Open c.sync_open.new.wal)) (sym c.in-Open.is) c.sync_open.ensures.moments

@@ -7,6 +7,6 @@ use Rattle.qq_nodes.proofs.nodes.Nodes.down_each.Given as goal
 -- the queues so far were told
 abbrev pub invariant-places : goal.invariant-places
 invariant-places g l =
-    Served g.D.NodeDisk.tells g.D.NodeDisk.past g.D.NodeDisk.faults
-    (LeadsIn places_in l.at (λ (setup : Setup) place. Is (At place (Downs l.session)))) l.fn.self l.self l.fn.told
+    Served g.D.NodeDisk.facts (LeadsIn places_in l.at (λ (setup : Setup) place. Is (At place (Downs l.session))))
+    l.fn.self l.self l.fn.told
     l.told

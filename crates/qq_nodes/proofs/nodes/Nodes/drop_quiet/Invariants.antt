@@ -6,8 +6,7 @@ use Rattle.qq_nodes.proofs.nodes.Nodes.drop_quiet.Given as goal
 
 abbrev pub invariant-active : goal.invariant-active
 invariant-active g l =
-    ((outcome : Outcome) → Served g.D.NodeDisk.tells g.D.NodeDisk.past g.D.NodeDisk.faults (λ setup. IsNothing) l.fn.self
-    l.self outcome outcome)
+    ((outcome : Outcome) → Served g.D.NodeDisk.facts (λ setup. IsNothing) l.fn.self l.self outcome outcome)
     × (l.left ≤ length l.self.active)
 
 abbrev pub decreases-active : goal.decreases-active

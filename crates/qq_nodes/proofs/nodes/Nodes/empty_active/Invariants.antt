@@ -8,6 +8,6 @@ use Rattle.qq_nodes.proofs.nodes.Nodes.empty_active.Given as goal
 -- so many messages were delivered
 abbrev pub invariant-messages : goal.invariant-messages
 invariant-messages g l =
-    Served g.D.NodeDisk.tells g.D.NodeDisk.past g.D.NodeDisk.faults
-    (TimesIn l.message l.count (Tells (l.at + 1) (Delivers 0))) l.fn.self l.self l.fn.told l.told
+    Served g.D.NodeDisk.facts (TimesIn l.message l.count (Tells (l.at + 1) (Delivers 0))) l.fn.self
+    l.self l.fn.told l.told
     × (l.self.active ≡ l.fn.self.active)

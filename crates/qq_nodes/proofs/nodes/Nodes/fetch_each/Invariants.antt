@@ -7,6 +7,5 @@ use Rattle.qq_nodes.proofs.nodes.Nodes.fetch_each.Given as goal
 -- the queues so far were told
 abbrev pub invariant-places : goal.invariant-places
 invariant-places g l =
-    Served g.D.NodeDisk.tells g.D.NodeDisk.past g.D.NodeDisk.faults
-    (LeadsIn places_in l.at (λ (setup : Setup) place. Tells place (Fetches l.session)))
+    Served g.D.NodeDisk.facts (LeadsIn places_in l.at (λ (setup : Setup) place. Tells place (Fetches l.session)))
     l.fn.self l.self l.fn.told l.told

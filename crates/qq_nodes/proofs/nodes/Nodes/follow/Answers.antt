@@ -9,6 +9,6 @@ use Rattle.qq_nodes.proofs.nodes.Nodes.follow.Goals as goal
 pub returns-in-None-clause-ok : goal.returns-in-None-clause-ok
 returns-in-None-clause-ok g c =
     subst
-    (λ (o : Option Claim). Served g.D.NodeDisk.tells g.D.NodeDisk.past g.D.NodeDisk.faults
-    (λ setup. IsFollowed o (c.args.at + 1)) c.args.self.now c.args.self.now c.args.told.now c.args.told.now)
+    (λ (o : Option Claim). Served g.D.NodeDisk.facts (λ setup. IsFollowed o (c.args.at + 1))
+    c.args.self.now c.args.self.now c.args.told.now c.args.told.now)
     (sym c.in-None.is) (served-nothing c.args.self.now c.args.told.now (λ setup d r st. refl))

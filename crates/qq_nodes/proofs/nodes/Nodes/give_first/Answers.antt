@@ -40,6 +40,6 @@ queues-preserved g c =
 pub returns-clause-ok : goal.returns-clause-ok
 returns-clause-ok g c =
     subst
-    (λ n. Served g.D.NodeDisk.tells g.D.NodeDisk.past g.D.NodeDisk.faults
-    (GivesTo c.args.session c.args.body.now (numbers_of c.args.queues.now) n) c.args.self.now c.queues.self
+    (λ n. Served g.D.NodeDisk.facts (GivesTo c.args.session c.args.body.now (numbers_of c.args.queues.now) n)
+    c.args.self.now c.queues.self
     c.args.told.now c.queues.told) (omega (arith, c.requires.count)) c.queues.invariant

@@ -5,5 +5,4 @@ use Rattle.qq_nodes.proofs.nodes.Nodes.give_first.Given as goal
 -- the queues so far were given the command
 abbrev pub invariant-queues : goal.invariant-queues
 invariant-queues g l =
-    Served g.D.NodeDisk.tells g.D.NodeDisk.past g.D.NodeDisk.faults (GivesTo l.session l.body (numbers_of l.queues) l.at)
-    l.fn.self l.self l.fn.told l.told
+    Served g.D.NodeDisk.facts (GivesTo l.session l.body (numbers_of l.queues) l.at) l.fn.self l.self l.fn.told l.told

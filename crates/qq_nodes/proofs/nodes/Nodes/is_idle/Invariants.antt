@@ -8,5 +8,5 @@ use Rattle.qq_nodes.proofs.nodes.Nodes.is_idle.Given as goal
 -- the active queues so far are quiet
 abbrev pub invariant-active : goal.invariant-active
 invariant-active g l =
-    (setup : Setup) (c : Cluster) → IsReached setup c → Stands g.D.NodeDisk.tells g.D.NodeDisk.past setup l.self c → (i : ℕ) → i < l.place
+    (setup : Setup) (c : Cluster) → IsReached setup c → Stands g.D.NodeDisk.facts setup l.self c → (i : ℕ) → i < l.place
     → is_quiet setup c.up (c.queue (get_or l.self.active i 0 + 1)) ≡ true

@@ -9,5 +9,5 @@ use Rattle.qq_nodes.proofs.nodes.Nodes.is_quiet.Given as goal
 -- nothing waits at the nodes so far
 abbrev pub invariant-nodes : goal.invariant-nodes
 invariant-nodes g l =
-    (setup : Setup) (c : Cluster) → IsReached setup c → Stands g.D.NodeDisk.tells g.D.NodeDisk.past setup l.self c
+    (setup : Setup) (c : Cluster) → IsReached setup c → Stands g.D.NodeDisk.facts setup l.self c
     → list_all (is_quiet_at (c.queue (l.at + 1)) c.up) (take l.place setup.nodes) ≡ true

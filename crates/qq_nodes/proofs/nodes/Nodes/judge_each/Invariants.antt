@@ -7,6 +7,5 @@ use Rattle.qq_nodes.proofs.nodes.Nodes.judge_each.Given as goal
 -- so many verdicts were given
 abbrev pub invariant-verdicts : goal.invariant-verdicts
 invariant-verdicts g l =
-    Served g.D.NodeDisk.tells g.D.NodeDisk.past g.D.NodeDisk.faults
-    (TimesIn l.verdict l.count (IsNextJudged (l.at + 1))) l.fn.self l.self l.fn.told l.told
+    Served g.D.NodeDisk.facts (TimesIn l.verdict l.count (IsNextJudged (l.at + 1))) l.fn.self l.self l.fn.told l.told
     × (l.self.active ≡ l.fn.self.active)

@@ -75,5 +75,4 @@ returns-clause-disks g c =
     (of-ok (λ nodes. AreBareNodes c.args.rows.now c.len-count.result nodes.items) c.bare_nodes.result
     c.in_ok-queues.nodes c.in_ok-queues.ensures.second c.bare_nodes.ensures.ok) c.put_disks.ensures.disks
     c.new.ensures c.new-2.ensures refl in
-    have-disks g.D.NodeDisk.tells g.D.NodeDisk.past g.D.NodeDisk.faults c.args.rows.now disks c.put_disks.new.self
-    made.nodes)
+    have-disks g.D.NodeDisk.facts c.args.rows.now disks c.put_disks.new.self made.nodes)

@@ -7,7 +7,7 @@ use Rattle.qq_nodes.proofs.nodes.Nodes.notice_each.Given as goal
 -- the active queues so far have noticed what is synced of them, and so have those between
 abbrev pub invariant-active : goal.invariant-active
 invariant-active g l =
-    Served g.D.NodeDisk.tells g.D.NodeDisk.past g.D.NodeDisk.faults
+    Served g.D.NodeDisk.facts
     (LeadsIn places_in (get_or l.self.active l.place (length l.self.queues.items)) (λ (setup : Setup). IsNotice l.node.0))
     l.fn.self l.self l.fn.told l.told
     × (l.self.active ≡ l.fn.self.active)

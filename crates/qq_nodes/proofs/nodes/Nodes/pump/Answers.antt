@@ -24,8 +24,8 @@ pub rounds-preserved : goal.rounds-preserved
 rounds-preserved g c =
     let one : c.rounds.left ≡ suc (c.rounds.left - 1) = omega (arith, c.rounds-test.true) in
     pump-more (c.rounds.left - 1)
-    (subst (λ (k : ℕ). Served g.D.NodeDisk.tells g.D.NodeDisk.past g.D.NodeDisk.faults (PumpLeads k) c.args.self.now
-    c.rounds.self c.args.told.now c.rounds.told) one c.rounds.invariant)
+    (subst (λ (k : ℕ). Served g.D.NodeDisk.facts (PumpLeads k) c.args.self.now c.rounds.self
+    c.args.told.now c.rounds.told) one c.rounds.invariant)
     (λ setup n r st. sym c.if-idle.false ∙ c.is_idle-idle.ensures setup n r st) c.in_default.ensures.ok
 
 pub is_idle-idle-requires-2 : goal.is_idle-idle-requires-2
@@ -40,16 +40,16 @@ pub returns-clause-ok : goal.returns-clause-ok
 returns-clause-ok g c =
     let none : c.rounds.left ≡ 0 = omega (arith, c.rounds-test.false) in
     pump-busy
-    (subst (λ (k : ℕ). Served g.D.NodeDisk.tells g.D.NodeDisk.past g.D.NodeDisk.faults (PumpLeads k) c.args.self.now
-    c.rounds.self c.args.told.now c.rounds.told) none c.rounds.invariant)
+    (subst (λ (k : ℕ). Served g.D.NodeDisk.facts (PumpLeads k) c.args.self.now c.rounds.self
+    c.args.told.now c.rounds.told) none c.rounds.invariant)
     (λ setup n r st. sym c.if-idle-2.false ∙ c.is_idle-idle-2.ensures setup n r st) c.in_default-say_busy.ensures.ok
 
 pub returns-in-Err-clause-err : goal.returns-in-Err-clause-err
 returns-in-Err-clause-err g c =
     let one : c.rounds.left ≡ suc (c.rounds.left - 1) = omega (arith, c.rounds-test.true) in
     pump-gave_up (c.rounds.left - 1)
-    (subst (λ (k : ℕ). Served g.D.NodeDisk.tells g.D.NodeDisk.past g.D.NodeDisk.faults (PumpLeads k) c.args.self.now
-    c.rounds.self c.args.told.now c.rounds.told) one c.rounds.invariant)
+    (subst (λ (k : ℕ). Served g.D.NodeDisk.facts (PumpLeads k) c.args.self.now c.rounds.self
+    c.args.told.now c.rounds.told) one c.rounds.invariant)
     (λ setup n r st. sym c.if-idle.false ∙ c.is_idle-idle.ensures setup n r st) c.in-Err.ensures.err
 
 pub returns-in-Err-say_busy-clause-err : goal.returns-in-Err-say_busy-clause-err

@@ -5,5 +5,4 @@ use Rattle.qq_nodes.proofs.nodes.Nodes.round_each.Given as goal
 -- the nodes so far have made their round
 abbrev pub invariant-nodes : goal.invariant-nodes
 invariant-nodes g l =
-    Served g.D.NodeDisk.tells g.D.NodeDisk.past g.D.NodeDisk.faults (LeadsIn nodes_in l.at IsNodeRound) l.fn.self l.self
-    l.fn.told l.told
+    Served g.D.NodeDisk.facts (LeadsIn nodes_in l.at IsNodeRound) l.fn.self l.self l.fn.told l.told

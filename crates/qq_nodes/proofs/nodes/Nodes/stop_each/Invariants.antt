@@ -4,4 +4,4 @@ use Rattle.qq_nodes.proofs.nodes.Nodes.stop_each.Given as goal
 -- the first nodes have stopped
 abbrev pub invariant-nodes : goal.invariant-nodes
 invariant-nodes g l =
-    StoppedTo g.D.NodeDisk.tells g.D.NodeDisk.past g.D.NodeDisk.faults l.at l.fn.self l.self
+    StoppedTo g.D.NodeDisk.facts l.at l.fn.self l.self

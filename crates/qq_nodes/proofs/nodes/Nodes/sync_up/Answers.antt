@@ -21,7 +21,7 @@ pub returns-in-Err-clause-err : goal.returns-in-Err-clause-err
 returns-in-Err-clause-err g c =
     sync-spent c.args.node.0 c.args.self.now c.sync_in.new.nodes c.requires.node.0 c.requires.node.1
     (λ setup d st. sym c.if-not-up.false ∙ c.is_up-up.ensures setup d st)
-    g.D.NodeDisk.faults c.in-Err.cause c.in-Err.ensures.err
+    c.in-Err.cause c.in-Err.ensures.err
 
 pub mark_synced-requires-clause-sound : goal.mark_synced-requires-clause-sound
 mark_synced-requires-clause-sound g c = queues-sound c.requires.serve
@@ -39,7 +39,7 @@ pub returns-in-Err-fail-clause-err : goal.returns-in-Err-fail-clause-err
 returns-in-Err-fail-clause-err g c =
     sync-wants c.args.node.0 c.args.self.now c.sync_in.new.nodes c.requires.node.0 c.requires.node.1
     (λ setup d st. sym c.if-not-up.false ∙ c.is_up-up.ensures setup d st)
-    g.D.NodeDisk.faults c.in-Ok.outcome c.fail.new.self c.in-Err-fail.cause c.in-Ok.ensures.ok
+    c.in-Ok.outcome c.fail.new.self c.in-Err-fail.cause c.in-Ok.ensures.ok
     (nodes-as c.fail.new.self c.mark_synced-in-NoFile.new.self c.in-Err-fail.ensures.err
     ∙ nodes-as c.mark_synced-in-NoFile.new.self _ c.mark_synced-in-NoFile.ensures.same) c.in-Err-fail.ensures.want
 
@@ -50,31 +50,31 @@ pub returns-in-Err-fail-2-clause-err : goal.returns-in-Err-fail-2-clause-err
 returns-in-Err-fail-2-clause-err g c =
     sync-wants c.args.node.0 c.args.self.now c.sync_in.new.nodes c.requires.node.0 c.requires.node.1
     (λ setup d st. sym c.if-not-up.false ∙ c.is_up-up.ensures setup d st)
-    g.D.NodeDisk.faults c.in-Ok.outcome c.fail-in-Nothing.new.self c.in-Err-fail-2.cause c.in-Ok.ensures.ok
+    c.in-Ok.outcome c.fail-in-Nothing.new.self c.in-Err-fail-2.cause c.in-Ok.ensures.ok
     (nodes-as c.fail-in-Nothing.new.self _ c.in-Err-fail-2.ensures.err) c.in-Err-fail-2.ensures.want
 
 pub returns-in-Whole-clause-ok : goal.returns-in-Whole-clause-ok
 returns-in-Whole-clause-ok g c =
     synced c.args.node.0 c.args.self.now c.sync_in.new.nodes c.requires.node.0 c.requires.node.1
     (λ setup d st. sym c.if-not-up.false ∙ c.is_up-up.ensures setup d st)
-    g.D.NodeDisk.faults c.mark_synced.new.self c.args.told.now (subst
-    (λ outcome. NodeTurns (Syncs g.D.NodeDisk.tells g.D.NodeDisk.past g.D.NodeDisk.faults outcome) (c.args.node.0 - 1)
-    c.args.self.now.nodes.items c.sync_in.new.nodes.items) c.in-Whole.is c.in-Ok.ensures.ok) c.mark_synced.ensures
+    c.mark_synced.new.self c.args.told.now (subst
+    (λ outcome. NodeTurns (Syncs g.D.NodeDisk.facts outcome) (c.args.node.0 - 1) c.args.self.now.nodes.items
+    c.sync_in.new.nodes.items) c.in-Whole.is c.in-Ok.ensures.ok) c.mark_synced.ensures
 
 pub returns-in_default-clause-ok : goal.returns-in_default-clause-ok
 returns-in_default-clause-ok g c =
     synced-failed c.args.node.0 c.args.self.now c.sync_in.new.nodes c.requires.node.0 c.requires.node.1
     (λ setup d st. sym c.if-not-up.false ∙ c.is_up-up.ensures setup d st)
-    g.D.NodeDisk.faults c.mark_synced-in-NoFile.new.self c.fail.new.self c.args.told.now c.fail.new.told (subst
-    (λ outcome. NodeTurns (Syncs g.D.NodeDisk.tells g.D.NodeDisk.past g.D.NodeDisk.faults outcome) (c.args.node.0 - 1)
-    c.args.self.now.nodes.items c.sync_in.new.nodes.items) c.in-NoFile.is c.in-Ok.ensures.ok)
+    c.mark_synced-in-NoFile.new.self c.fail.new.self c.args.told.now c.fail.new.told (subst
+    (λ outcome. NodeTurns (Syncs g.D.NodeDisk.facts outcome) (c.args.node.0 - 1) c.args.self.now.nodes.items
+    c.sync_in.new.nodes.items) c.in-NoFile.is c.in-Ok.ensures.ok)
     c.mark_synced-in-NoFile.ensures c.in_default.ensures.ok c.in_default.ensures.says
 
 pub returns-in_default-fail-clause-ok : goal.returns-in_default-fail-clause-ok
 returns-in_default-fail-clause-ok g c =
     sync-failed c.args.node.0 c.args.self.now c.sync_in.new.nodes c.requires.node.0 c.requires.node.1
     (λ setup d st. sym c.if-not-up.false ∙ c.is_up-up.ensures setup d st)
-    g.D.NodeDisk.faults c.fail-in-Nothing.new.self c.args.told.now c.fail-in-Nothing.new.told (subst
-    (λ outcome. NodeTurns (Syncs g.D.NodeDisk.tells g.D.NodeDisk.past g.D.NodeDisk.faults outcome) (c.args.node.0 - 1)
-    c.args.self.now.nodes.items c.sync_in.new.nodes.items) c.in-Nothing.is c.in-Ok.ensures.ok)
+    c.fail-in-Nothing.new.self c.args.told.now c.fail-in-Nothing.new.told (subst
+    (λ outcome. NodeTurns (Syncs g.D.NodeDisk.facts outcome) (c.args.node.0 - 1) c.args.self.now.nodes.items
+    c.sync_in.new.nodes.items) c.in-Nothing.is c.in-Ok.ensures.ok)
     c.in_default-fail.ensures.ok c.in_default-fail.ensures.says

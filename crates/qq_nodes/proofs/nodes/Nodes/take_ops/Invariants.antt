@@ -4,4 +4,4 @@ use Rattle.qq_nodes.proofs.nodes.Nodes.take_ops.Given as goal
 -- so many of the active queues have handed out what waits
 abbrev pub invariant-active : goal.invariant-active
 invariant-active g l =
-    TakingTo g.D.NodeDisk.tells g.D.NodeDisk.past l.node.0 l.place l.fn.self l.self l.ops.items
+    TakingTo g.D.NodeDisk.facts l.node.0 l.place l.fn.self l.self l.ops.items

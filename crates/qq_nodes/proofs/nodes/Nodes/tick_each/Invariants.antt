@@ -6,5 +6,5 @@ use Rattle.qq_nodes.proofs.nodes.Nodes.tick_each.Given as goal
 -- time has passed at the first members of the queues so far
 abbrev pub invariant-places : goal.invariant-places
 invariant-places g l =
-    Served g.D.NodeDisk.tells g.D.NodeDisk.past g.D.NodeDisk.faults
-    (LeadsIn places_in l.at (λ (setup : Setup). IsFirstTick setup)) l.fn.self l.self l.fn.told l.told
+    Served g.D.NodeDisk.facts (LeadsIn places_in l.at (λ (setup : Setup). IsFirstTick setup)) l.fn.self
+    l.self l.fn.told l.told

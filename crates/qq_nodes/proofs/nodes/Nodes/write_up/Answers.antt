@@ -27,7 +27,7 @@ returns-in-Err-clause-err g c =
 pub returns-then-count-eq0-clause-ok : goal.returns-then-count-eq0-clause-ok
 returns-then-count-eq0-clause-ok g c =
     write-none c.args.node.0 c.args.self.now c.take_ops.new.self c.in-Ok.ops.items c.requires.node.0 c.requires.node.1
-    (λ setup d st. sym c.if-not-up.false ∙ c.is_up-up.ensures setup d st) c.in-Ok.ensures.ok g.D.NodeDisk.faults
+    (λ setup d st. sym c.if-not-up.false ∙ c.is_up-up.ensures setup d st) c.in-Ok.ensures.ok
     c.args.told.now (is-empty c.in-Ok.ops.items (omega (arith, c.len-count.ensures)))
 
 pub append_in-requires-clause-may : goal.append_in-requires-clause-may
@@ -39,15 +39,15 @@ append_in-requires-clause-may g c =
 pub returns-in-Err-append_in-clause-err : goal.returns-in-Err-append_in-clause-err
 returns-in-Err-append_in-clause-err g c =
     write-spent c.args.node.0 c.args.self.now c.take_ops.new.self c.in-Ok.ops.items c.requires.node.0 c.requires.node.1
-    (λ setup d st. sym c.if-not-up.false ∙ c.is_up-up.ensures setup d st) c.in-Ok.ensures.ok g.D.NodeDisk.faults
+    (λ setup d st. sym c.if-not-up.false ∙ c.is_up-up.ensures setup d st) c.in-Ok.ensures.ok
     c.append_in.new.nodes c.in-Err-append_in.cause c.in-Err-append_in.ensures.err
 
 pub returns-then-more-clause-ok : goal.returns-then-more-clause-ok
 returns-then-more-clause-ok g c =
     written c.args.node.0 c.args.self.now c.take_ops.new.self c.in-Ok.ops.items c.requires.node.0 c.requires.node.1
-    (λ setup d st. sym c.if-not-up.false ∙ c.is_up-up.ensures setup d st) c.in-Ok.ensures.ok g.D.NodeDisk.faults
+    (λ setup d st. sym c.if-not-up.false ∙ c.is_up-up.ensures setup d st) c.in-Ok.ensures.ok
     c.append_in.new.nodes c.args.told.now (not-empty c.in-Ok.ops.items (omega (arith, c.len-count.ensures))) (subst
-    (λ more. NodeTurns (Appends g.D.NodeDisk.tells g.D.NodeDisk.past g.D.NodeDisk.faults c.in-Ok.ops.items more) (c.args.node.0 - 1)
+    (λ more. NodeTurns (Appends g.D.NodeDisk.facts c.in-Ok.ops.items more) (c.args.node.0 - 1)
     c.take_ops.new.self.nodes.items c.append_in.new.nodes.items) c.if-more.true c.in-Ok-append_in.ensures.ok)
 
 pub fail-requires-clause-sound : goal.fail-requires-clause-sound
@@ -58,19 +58,19 @@ fail-requires-clause-sound g c =
 pub returns-in-Err-fail-clause-err : goal.returns-in-Err-fail-clause-err
 returns-in-Err-fail-clause-err g c =
     subst
-    (λ left. GaveUp g.D.NodeDisk.tells g.D.NodeDisk.past g.D.NodeDisk.faults (λ (setup : Setup). IsWrite setup c.args.node.0)
-    c.args.self.now left c.in-Err-fail.cause) (sym c.in-Err-fail.ensures.err)
+    (λ left. GaveUp g.D.NodeDisk.facts (λ (setup : Setup). IsWrite setup c.args.node.0) c.args.self.now left
+    c.in-Err-fail.cause) (sym c.in-Err-fail.ensures.err)
     (write-wants c.args.node.0 c.args.self.now c.take_ops.new.self c.in-Ok.ops.items c.requires.node.0 c.requires.node.1
-    (λ setup d st. sym c.if-not-up.false ∙ c.is_up-up.ensures setup d st) c.in-Ok.ensures.ok g.D.NodeDisk.faults
+    (λ setup d st. sym c.if-not-up.false ∙ c.is_up-up.ensures setup d st) c.in-Ok.ensures.ok
     c.append_in.new.nodes c.in-Err-fail.cause (subst
-    (λ more. NodeTurns (Appends g.D.NodeDisk.tells g.D.NodeDisk.past g.D.NodeDisk.faults c.in-Ok.ops.items more) (c.args.node.0 - 1)
+    (λ more. NodeTurns (Appends g.D.NodeDisk.facts c.in-Ok.ops.items more) (c.args.node.0 - 1)
     c.take_ops.new.self.nodes.items c.append_in.new.nodes.items) c.if-more.false c.in-Ok-append_in.ensures.ok) c.in-Err-fail.ensures.want)
 
 pub returns-clause-ok : goal.returns-clause-ok
 returns-clause-ok g c =
     write-failed c.args.node.0 c.args.self.now c.take_ops.new.self c.in-Ok.ops.items c.requires.node.0 c.requires.node.1
-    (λ setup d st. sym c.if-not-up.false ∙ c.is_up-up.ensures setup d st) c.in-Ok.ensures.ok g.D.NodeDisk.faults
+    (λ setup d st. sym c.if-not-up.false ∙ c.is_up-up.ensures setup d st) c.in-Ok.ensures.ok
     c.append_in.new.nodes c.fail.new.self c.args.told.now c.fail.new.told (not-empty c.in-Ok.ops.items (omega (arith, c.len-count.ensures))) (subst
-    (λ more. NodeTurns (Appends g.D.NodeDisk.tells g.D.NodeDisk.past g.D.NodeDisk.faults c.in-Ok.ops.items more) (c.args.node.0 - 1)
+    (λ more. NodeTurns (Appends g.D.NodeDisk.facts c.in-Ok.ops.items more) (c.args.node.0 - 1)
     c.take_ops.new.self.nodes.items c.append_in.new.nodes.items) c.if-more.false c.in-Ok-append_in.ensures.ok)
     c.in_default.ensures.ok c.in_default.ensures.says

@@ -29,7 +29,7 @@ returns-in-Err-append_file-clause-stays g c = λ told going.
           (is_batch was.queues.items was.header taken c.as_slice.result.now
           (c.as_slice.ensures.value ∙ c.in-Ok.ensures.ok) c.in-Ok.ensures.fits batch are)
           (may-add was.queues.items was.header was.marks was.size was.numbers taken
-          (now (g.D.NodeDisk.past was.disk)) on c.requires.queues_are c.requires.carries
+          (now (g.D.NodeDisk.facts.past was.disk)) on c.requires.queues_are c.requires.carries
           (follow-take was.queues.items c.in-Ok.count was.waiting.items (known was.marks) c.requires.follow)
           (taken-fit c.in-Ok.count was.waiting.items c.requires.waiting) batch are);
     }
@@ -45,7 +45,7 @@ returns-clause-stays g c = λ told going.
           (is_batch was.queues.items was.header taken c.as_slice.result.now
           (c.as_slice.ensures.value ∙ c.in-Ok.ensures.ok) c.in-Ok.ensures.fits batch are)
           (may-add was.queues.items was.header was.marks was.size was.numbers taken
-          (now (g.D.NodeDisk.past was.disk)) on c.requires.queues_are c.requires.carries
+          (now (g.D.NodeDisk.facts.past was.disk)) on c.requires.queues_are c.requires.carries
           (follow-take was.queues.items c.in-Ok.count was.waiting.items (known was.marks) c.requires.follow)
           (taken-fit c.in-Ok.count was.waiting.items c.requires.waiting) batch are);
     }
@@ -59,11 +59,11 @@ returns-clause-holds g c = λ told batch are.
     (c.as_slice.ensures.value ∙ c.in-Ok.ensures.ok) c.in-Ok.ensures.fits batch are in (
       c.append_file.ensures.stays told was.queues.items batch on.log b
           (may-add was.queues.items was.header was.marks was.size was.numbers taken
-          (now (g.D.NodeDisk.past was.disk)) on c.requires.queues_are c.requires.carries
+          (now (g.D.NodeDisk.facts.past was.disk)) on c.requires.queues_are c.requires.carries
           (follow-take was.queues.items c.in-Ok.count was.waiting.items (known was.marks) c.requires.follow)
           (taken-fit c.in-Ok.count was.waiting.items c.requires.waiting) batch are),
-      holds-also was.queues.items batch (now (g.D.NodeDisk.past was.disk))
-          (now (g.D.NodeDisk.past c.append_file.new.disk))
+      holds-also was.queues.items batch (now (g.D.NodeDisk.facts.past was.disk))
+          (now (g.D.NodeDisk.facts.past c.append_file.new.disk))
           (c.in_default.ensures.shown told was.queues.items batch on.log b),
     )
 
@@ -109,17 +109,17 @@ returns-clause-sound g c =
           (c.as_slice.ensures.value ∙ c.in-Ok.ensures.ok) c.in-Ok.ensures.fits ops.ops ops.are in
           subst (λ (l : List Mark). IsOnDisk was.queues.items was.header l
           (was.size + c.len.result) was.numbers
-          (now (g.D.NodeDisk.past c.append_file.new.disk))) (sym marks)
+          (now (g.D.NodeDisk.facts.past c.append_file.new.disk))) (sym marks)
           (appended was.queues.items was.header was.marks was.size was.numbers taken
-          (now (g.D.NodeDisk.past was.disk)) on c.requires.queues_are c.requires.carries
+          (now (g.D.NodeDisk.facts.past was.disk)) on c.requires.queues_are c.requires.carries
           (follow-take was.queues.items c.in-Ok.count was.waiting.items (known was.marks) c.requires.follow)
           (taken-fit c.in-Ok.count was.waiting.items c.requires.waiting) ops.ops ops.are c.len.result
-          (now (g.D.NodeDisk.past c.append_file.new.disk)) c.requires.number
+          (now (g.D.NodeDisk.facts.past c.append_file.new.disk)) c.requires.number
           (c.in_default.ensures.log before was.queues.items ops.ops on.log b)
           (c.in_default.ensures.shown before was.queues.items ops.ops on.log b)
           (c.in_default.ensures.length before was.queues.items on.log
-          ∙ ap (λ (k : ℕ). length (content (now (g.D.NodeDisk.past was.disk)) (log_of was.header.file)) + k) (search rules))
-          (c.in_default.ensures.others before));
+          ∙ ap (λ (k : ℕ). length (content (now (g.D.NodeDisk.facts.past was.disk)) (log_of was.header.file)) + k)
+          (search rules)) (c.in_default.ensures.others before));
       synced = λ told going clean. absurd (cc clean);
       kept = λ told going.
           let before = told_before c.append_file.ensures.told told in
@@ -128,17 +128,17 @@ returns-clause-sound g c =
           let b = is_batch was.queues.items was.header taken c.as_slice.result.now
           (c.as_slice.ensures.value ∙ c.in-Ok.ensures.ok) c.in-Ok.ensures.fits ops.ops ops.are in
           subst (λ (l : List Mark). IsKept was.queues.items was.header l
-          (now (g.D.NodeDisk.past c.append_file.new.disk))) (sym marks)
-          (noted-kept was.queues.items was.header was.marks taken (now (g.D.NodeDisk.past was.disk))
-          (now (g.D.NodeDisk.past c.append_file.new.disk))
+          (now (g.D.NodeDisk.facts.past c.append_file.new.disk))) (sym marks)
+          (noted-kept was.queues.items was.header was.marks taken (now (g.D.NodeDisk.facts.past was.disk))
+          (now (g.D.NodeDisk.facts.past c.append_file.new.disk))
           (c.in_default.ensures.kept before was.queues.items ops.ops on.log b)
           (c.requires.kept before c.if-self.false));
     }
 
 pub returns-in-Err-append_file-clause-sound : goal.returns-in-Err-append_file-clause-sound
 returns-in-Err-append_file-clause-sound g c =
-    let past = g.D.NodeDisk.past in
-    still-sound g.D.NodeDisk.tells past c.args.self.now c.append_file.new.disk c.is_failure-self.result c.requires
+    let past = g.D.NodeDisk.facts.past in
+    still-sound g.D.NodeDisk.facts c.args.self.now c.append_file.new.disk c.is_failure-self.result c.requires
     c.if-self.false c.append_file.ensures.told
     (λ told. stays-at-want (past c.args.self.now.disk) (past c.append_file.new.disk) c.in-Err-append_file.fault
     c.is_failure-self.result c.is_failure-self.ensures (c.in-Err-append_file.ensures.want told))
@@ -151,7 +151,7 @@ returns-in-Err-append_file-clause-stops g c =
 
 pub returns-in-Err-append_file-clause-moments : goal.returns-in-Err-append_file-clause-moments
 returns-in-Err-append_file-clause-moments g c = λ told.
-    let past = g.D.NodeDisk.past in
+    let past = g.D.NodeDisk.facts.past in
     stays-at-want (past c.args.self.now.disk) (past c.append_file.new.disk) c.in-Err-append_file.fault
     c.is_failure-self.result c.is_failure-self.ensures (c.in-Err-append_file.ensures.want told)
 

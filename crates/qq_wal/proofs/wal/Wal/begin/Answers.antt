@@ -36,7 +36,7 @@ returns-in-Err-begin_file-clause-stays g c = λ told.
     c.begin_file.ensures.stays told c.args.queues.items may.before
     (map CarryRecord (carries_in c.as_slice-2.result.now))
     (begin-continues (λ id s. (c.carries_restate.ensures.exact (carry_of id s) s).1 refl) c.args.queues.items
-    c.args.header c.args.carries.now c.args.names.now (now (g.D.NodeDisk.past c.args.disk)) may c.requires.number
+    c.args.header c.args.carries.now c.args.names.now (now (g.D.NodeDisk.facts.past c.args.disk)) may c.requires.number
     (recursion_from_All IsCarry c.args.carries.now c.requires.carries) c.as_slice-2.result.now
     (c.as_slice-2.ensures ∙ c.in-Ok.ensures.ok
     ∙ ap (λ (l : List QueueId). map (new_mark c.args.carries.now) l) c.as_slice.ensures.value)
@@ -49,7 +49,7 @@ returns-in-Err-begin_file-clause-may g c = λ told before.
     c.begin_file.ensures.may told c.args.queues.items may.before
     (map CarryRecord (carries_in c.as_slice-2.result.now))
     (begin-continues (λ id s. (c.carries_restate.ensures.exact (carry_of id s) s).1 refl) c.args.queues.items
-    c.args.header c.args.carries.now c.args.names.now (now (g.D.NodeDisk.past c.args.disk)) may c.requires.number
+    c.args.header c.args.carries.now c.args.names.now (now (g.D.NodeDisk.facts.past c.args.disk)) may c.requires.number
     (recursion_from_All IsCarry c.args.carries.now c.requires.carries) c.as_slice-2.result.now
     (c.as_slice-2.ensures ∙ c.in-Ok.ensures.ok
     ∙ ap (λ (l : List QueueId). map (new_mark c.args.carries.now) l) c.as_slice.ensures.value)
@@ -62,7 +62,7 @@ returns-clause-stays g c = λ told.
     c.begin_file.ensures.stays told c.args.queues.items may.before
     (map CarryRecord (carries_in c.as_slice-2.result.now))
     (begin-continues (λ id s. (c.carries_restate.ensures.exact (carry_of id s) s).1 refl) c.args.queues.items
-    c.args.header c.args.carries.now c.args.names.now (now (g.D.NodeDisk.past c.args.disk)) may c.requires.number
+    c.args.header c.args.carries.now c.args.names.now (now (g.D.NodeDisk.facts.past c.args.disk)) may c.requires.number
     (recursion_from_All IsCarry c.args.carries.now c.requires.carries) c.as_slice-2.result.now
     (c.as_slice-2.ensures ∙ c.in-Ok.ensures.ok
     ∙ ap (λ (l : List QueueId). map (new_mark c.args.carries.now) l) c.as_slice.ensures.value)
@@ -75,7 +75,7 @@ returns-clause-behind g c = λ told.
     c.in_default.ensures.behind told c.args.queues.items may.before
     (map CarryRecord (carries_in c.as_slice-2.result.now))
     (begin-continues (λ id s. (c.carries_restate.ensures.exact (carry_of id s) s).1 refl) c.args.queues.items
-    c.args.header c.args.carries.now c.args.names.now (now (g.D.NodeDisk.past c.args.disk)) may c.requires.number
+    c.args.header c.args.carries.now c.args.names.now (now (g.D.NodeDisk.facts.past c.args.disk)) may c.requires.number
     (recursion_from_All IsCarry c.args.carries.now c.requires.carries) c.as_slice-2.result.now
     (c.as_slice-2.ensures ∙ c.in-Ok.ensures.ok
     ∙ ap (λ (l : List QueueId). map (new_mark c.args.carries.now) l) c.as_slice.ensures.value)
@@ -89,7 +89,7 @@ returns-clause-may g c = λ told before.
     c.begin_file.ensures.may told c.args.queues.items may.before
     (map CarryRecord (carries_in c.as_slice-2.result.now))
     (begin-continues (λ id s. (c.carries_restate.ensures.exact (carry_of id s) s).1 refl) c.args.queues.items
-    c.args.header c.args.carries.now c.args.names.now (now (g.D.NodeDisk.past c.args.disk)) may c.requires.number
+    c.args.header c.args.carries.now c.args.names.now (now (g.D.NodeDisk.facts.past c.args.disk)) may c.requires.number
     (recursion_from_All IsCarry c.args.carries.now c.requires.carries) c.as_slice-2.result.now
     (c.as_slice-2.ensures ∙ c.in-Ok.ensures.ok
     ∙ ap (λ (l : List QueueId). map (new_mark c.args.carries.now) l) c.as_slice.ensures.value)
@@ -99,12 +99,12 @@ returns-clause-may g c = λ told before.
 pub returns-clause-holds : goal.returns-clause-holds
 returns-clause-holds g c = λ told.
     let may = c.requires.goes_on told in
-    still-holds c.args.queues.items (now (g.D.NodeDisk.past c.args.disk))
-    (now (g.D.NodeDisk.past c.begin_file.new.disk))
+    still-holds c.args.queues.items (now (g.D.NodeDisk.facts.past c.args.disk))
+    (now (g.D.NodeDisk.facts.past c.begin_file.new.disk))
     (c.in_default.ensures.shown told c.args.queues.items may.before
     (map CarryRecord (carries_in c.as_slice-2.result.now))
     (begin-continues (λ id s. (c.carries_restate.ensures.exact (carry_of id s) s).1 refl) c.args.queues.items
-    c.args.header c.args.carries.now c.args.names.now (now (g.D.NodeDisk.past c.args.disk)) may c.requires.number
+    c.args.header c.args.carries.now c.args.names.now (now (g.D.NodeDisk.facts.past c.args.disk)) may c.requires.number
     (recursion_from_All IsCarry c.args.carries.now c.requires.carries) c.as_slice-2.result.now
     (c.as_slice-2.ensures ∙ c.in-Ok.ensures.ok
     ∙ ap (λ (l : List QueueId). map (new_mark c.args.carries.now) l) c.as_slice.ensures.value)
@@ -132,14 +132,14 @@ returns-clause-sound g c =
           let before = told_before c.begin_file.ensures.told told in
           let may = c.requires.goes_on before in
           let goes_on = begin-continues (λ id s. (c.carries_restate.ensures.exact (carry_of id s) s).1 refl) queues
-          c.args.header c.args.carries.now c.args.names.now (now (g.D.NodeDisk.past c.args.disk)) may
+          c.args.header c.args.carries.now c.args.names.now (now (g.D.NodeDisk.facts.past c.args.disk)) may
           c.requires.number each c.as_slice-2.result.now (c.as_slice-2.ensures ∙ made) (search rules)
           (in_top c.args.header.file (search rules)) c.in-Ok-first_bytes.ensures.fits in
           let is = c.as_slice-3.ensures.value ∙ c.in-Ok-first_bytes.ensures.ok queues in
           begin-on-disk (λ id s. (c.carries_restate.ensures.exact (carry_of id s) s).1 refl) queues
-          c.args.header c.args.carries.now c.args.names.now (now (g.D.NodeDisk.past c.args.disk)) may
+          c.args.header c.args.carries.now c.args.names.now (now (g.D.NodeDisk.facts.past c.args.disk)) may
           c.requires.number each c.in-Ok.marks made c.len-size.result c.first_numbers.result
-          (now (g.D.NodeDisk.past c.begin_file.new.disk)) c.first_numbers.ensures
+          (now (g.D.NodeDisk.facts.past c.begin_file.new.disk)) c.first_numbers.ensures
           (c.in_default.ensures.log before queues may.before records goes_on is).0
           (c.in_default.ensures.shown before queues may.before records goes_on is)
           (search rules ∙ sym (c.in_default.ensures.length before queues may.before records goes_on is))
@@ -148,7 +148,7 @@ returns-clause-sound g c =
           let before = told_before c.begin_file.ensures.told told in
           let may = c.requires.goes_on before in
           let goes_on = begin-continues (λ id s. (c.carries_restate.ensures.exact (carry_of id s) s).1 refl) queues
-          c.args.header c.args.carries.now c.args.names.now (now (g.D.NodeDisk.past c.args.disk)) may
+          c.args.header c.args.carries.now c.args.names.now (now (g.D.NodeDisk.facts.past c.args.disk)) may
           c.requires.number each c.as_slice-2.result.now (c.as_slice-2.ensures ∙ made) (search rules)
           (in_top c.args.header.file (search rules)) c.in-Ok-first_bytes.ensures.fits in
           (c.in_default.ensures.log before queues may.before records goes_on
@@ -157,19 +157,19 @@ returns-clause-sound g c =
           let before = told_before c.begin_file.ensures.told told in
           let may = c.requires.goes_on before in
           let goes_on = begin-continues (λ id s. (c.carries_restate.ensures.exact (carry_of id s) s).1 refl) queues
-          c.args.header c.args.carries.now c.args.names.now (now (g.D.NodeDisk.past c.args.disk)) may
+          c.args.header c.args.carries.now c.args.names.now (now (g.D.NodeDisk.facts.past c.args.disk)) may
           c.requires.number each c.as_slice-2.result.now (c.as_slice-2.ensures ∙ made) (search rules)
           (in_top c.args.header.file (search rules)) c.in-Ok-first_bytes.ensures.fits in
           let is = c.as_slice-3.ensures.value ∙ c.in-Ok-first_bytes.ensures.ok queues in
           let log = c.in_default.ensures.log before queues may.before records goes_on is in
-          begun-kept queues c.args.header c.args.carries.now c.in-Ok.marks (now (g.D.NodeDisk.past c.begin_file.new.disk))
-          may.before.world made
+          begun-kept queues c.args.header c.args.carries.now c.in-Ok.marks
+          (now (g.D.NodeDisk.facts.past c.begin_file.new.disk)) may.before.world made
           (clean-kept queues (c.the_log_has_a_format.ensures queues) c.args.header c.in-Ok.marks
-          (now (g.D.NodeDisk.past c.begin_file.new.disk)) log.0 log.1
+          (now (g.D.NodeDisk.facts.past c.begin_file.new.disk)) log.0 log.1
           ∙ c.in_default.ensures.shown before queues may.before records goes_on is
           ∙ ap (λ (f : Option (Found (wal queues))). found_world (wal queues) f) may.found)
           (begin-agree (λ id s. (c.carries_restate.ensures.exact (carry_of id s) s).1 refl) queues
-          c.args.header c.args.carries.now c.args.names.now (now (g.D.NodeDisk.past c.args.disk)) may
+          c.args.header c.args.carries.now c.args.names.now (now (g.D.NodeDisk.facts.past c.args.disk)) may
           c.requires.number each c.in-Ok.marks made);
     }
 

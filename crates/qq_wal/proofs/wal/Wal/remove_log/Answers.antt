@@ -11,7 +11,7 @@ use Rattle.qq_wal.proofs.wal.Wal.remove_log.Goals as goal
 
 pub returns-in-Err-clause-outside : goal.returns-in-Err-clause-outside
 returns-in-Err-clause-outside g c = λ told same m is.
-    let past = g.D.NodeDisk.past in
+    let past = g.D.NodeDisk.facts.past in
     let was = c.args.self.now in
     let queues = was.queues.items in
     let laws = c.the_log_has_a_format.ensures queues in
@@ -25,7 +25,7 @@ returns-in-Err-clause-outside g c = λ told same m is.
 
 pub returns-clause-outside : goal.returns-clause-outside
 returns-clause-outside g c = λ told same m is.
-    let past = g.D.NodeDisk.past in
+    let past = g.D.NodeDisk.facts.past in
     let was = c.args.self.now in
     let queues = was.queues.items in
     let laws = c.the_log_has_a_format.ensures queues in
@@ -39,7 +39,7 @@ returns-clause-outside g c = λ told same m is.
 
 pub returns-in-Err-clause-may : goal.returns-in-Err-clause-may
 returns-in-Err-clause-may g c = λ told may.
-    let past = g.D.NodeDisk.past in
+    let past = g.D.NodeDisk.facts.past in
     let was = c.args.self.now in
     let queues = was.queues.items in
     let laws = c.the_log_has_a_format.ensures queues in
@@ -53,7 +53,7 @@ returns-in-Err-clause-may g c = λ told may.
 
 pub returns-clause-may : goal.returns-clause-may
 returns-clause-may g c = λ told may.
-    let past = g.D.NodeDisk.past in
+    let past = g.D.NodeDisk.facts.past in
     let was = c.args.self.now in
     let queues = was.queues.items in
     let laws = c.the_log_has_a_format.ensures queues in
@@ -67,7 +67,7 @@ returns-clause-may g c = λ told may.
 
 pub returns-in-Err-clause-stays : goal.returns-in-Err-clause-stays
 returns-in-Err-clause-stays g c = λ told.
-    let past = g.D.NodeDisk.past in
+    let past = g.D.NodeDisk.facts.past in
     let was = c.args.self.now in
     let queues = was.queues.items in
     let laws = c.the_log_has_a_format.ensures queues in
@@ -79,7 +79,7 @@ returns-in-Err-clause-stays g c = λ told.
 
 pub returns-clause-stays : goal.returns-clause-stays
 returns-clause-stays g c = λ told.
-    let past = g.D.NodeDisk.past in
+    let past = g.D.NodeDisk.facts.past in
     let was = c.args.self.now in
     let queues = was.queues.items in
     let laws = c.the_log_has_a_format.ensures queues in
@@ -91,17 +91,17 @@ returns-clause-stays g c = λ told.
 
 pub returns-in-Err-clause-beside : goal.returns-in-Err-clause-beside
 returns-in-Err-clause-beside g c = λ told.
-    remove-beside (g.D.NodeDisk.past c.args.self.now.disk) (g.D.NodeDisk.past c.remove.new.self) (log_of c.args.number)
-    (c.remove.ensures.moments told)
+    remove-beside (g.D.NodeDisk.facts.past c.args.self.now.disk) (g.D.NodeDisk.facts.past c.remove.new.self)
+    (log_of c.args.number) (c.remove.ensures.moments told)
 
 pub returns-clause-beside : goal.returns-clause-beside
 returns-clause-beside g c = λ told.
-    remove-beside (g.D.NodeDisk.past c.args.self.now.disk) (g.D.NodeDisk.past c.remove.new.self) (log_of c.args.number)
-    (c.remove.ensures.moments told)
+    remove-beside (g.D.NodeDisk.facts.past c.args.self.now.disk) (g.D.NodeDisk.facts.past c.remove.new.self)
+    (log_of c.args.number) (c.remove.ensures.moments told)
 
 pub returns-clause-holds : goal.returns-clause-holds
 returns-clause-holds g c = λ told.
-    let past = g.D.NodeDisk.past in
+    let past = g.D.NodeDisk.facts.past in
     let was = c.args.self.now in
     let queues = was.queues.items in
     let laws = c.the_log_has_a_format.ensures queues in
@@ -116,9 +116,9 @@ returns-clause-holds g c = λ told.
 
 pub returns-clause-sound : goal.returns-clause-sound
 returns-clause-sound g c =
-    let past = g.D.NodeDisk.past in
+    let past = g.D.NodeDisk.facts.past in
     let was = c.args.self.now in
-    removed-sound g.D.NodeDisk.tells past was c.remove.new.self c.args.number
+    removed-sound g.D.NodeDisk.facts was c.remove.new.self c.args.number
     (c.the_log_has_a_format.ensures was.queues.items) c.requires.sound c.remove.ensures.told
     (λ told going. (
       c.requires.outside told going,
@@ -128,8 +128,8 @@ returns-clause-sound g c =
 
 pub returns-in-Err-clause-sound : goal.returns-in-Err-clause-sound
 returns-in-Err-clause-sound g c =
-    let past = g.D.NodeDisk.past in
-    still-sound g.D.NodeDisk.tells past c.args.self.now c.remove.new.self c.is_failure-self.result c.requires.sound
+    let past = g.D.NodeDisk.facts.past in
+    still-sound g.D.NodeDisk.facts c.args.self.now c.remove.new.self c.is_failure-self.result c.requires.sound
     c.if-self.false c.remove.ensures.told
     (λ told. stays-at-want (past c.args.self.now.disk) (past c.remove.new.self) c.in-Err.fault
     c.is_failure-self.result c.is_failure-self.ensures (c.in-Err.ensures.want told))
@@ -141,6 +141,6 @@ returns-in-Err-clause-stops g c =
 
 pub returns-in-Err-clause-moments : goal.returns-in-Err-clause-moments
 returns-in-Err-clause-moments g c = λ told.
-    let past = g.D.NodeDisk.past in
+    let past = g.D.NodeDisk.facts.past in
     stays-at-want (past c.args.self.now.disk) (past c.remove.new.self) c.in-Err.fault c.is_failure-self.result
     c.is_failure-self.ensures (c.in-Err.ensures.want told)

@@ -30,11 +30,11 @@ returns-in-Err-begin_file-clause-stays g c = λ told.
     c.begin_file.ensures.stays told was.queues.items
     (record {
       files = was.header.file ∷ (found_behind (wal was.queues.items) top (Ours was.header)
-          (files_of (now (g.D.NodeDisk.past was.disk)))).files;
+          (files_of (now (g.D.NodeDisk.facts.past was.disk)))).files;
       world = on.lanes;
     }) (map CarryRecord (carries_in c.as_slice.result.now))
     (next-file was.queues.items (c.the_log_has_a_format.ensures was.queues.items) was.header header
-    was.marks was.size was.numbers (now (g.D.NodeDisk.past was.disk)) on
+    was.marks was.size was.numbers (now (g.D.NodeDisk.facts.past was.disk)) on
     (c.requires.sound.synced told c.if-self.false c.requires.synced) c.requires.sound.queues_are
     c.requires.sound.carries (λ id s. (c.carries_restate.ensures.exact (carry_of id s) s).1 refl)
     c.as_slice.result.now c.as_slice.ensures c.requires.sound.number c.in-Ok.ensures.ok refl refl
@@ -49,11 +49,11 @@ returns-in-Err-begin_file-clause-may g c = λ told before.
     c.begin_file.ensures.may told was.queues.items
     (record {
       files = was.header.file ∷ (found_behind (wal was.queues.items) top (Ours was.header)
-          (files_of (now (g.D.NodeDisk.past was.disk)))).files;
+          (files_of (now (g.D.NodeDisk.facts.past was.disk)))).files;
       world = on.lanes;
     }) (map CarryRecord (carries_in c.as_slice.result.now))
     (next-file was.queues.items (c.the_log_has_a_format.ensures was.queues.items) was.header header
-    was.marks was.size was.numbers (now (g.D.NodeDisk.past was.disk)) on
+    was.marks was.size was.numbers (now (g.D.NodeDisk.facts.past was.disk)) on
     (c.requires.sound.synced told c.if-self.false c.requires.synced) c.requires.sound.queues_are
     c.requires.sound.carries (λ id s. (c.carries_restate.ensures.exact (carry_of id s) s).1 refl)
     c.as_slice.result.now c.as_slice.ensures c.requires.sound.number c.in-Ok.ensures.ok refl refl
@@ -68,11 +68,11 @@ returns-clause-stays g c = λ told.
     c.begin_file.ensures.stays told was.queues.items
     (record {
       files = was.header.file ∷ (found_behind (wal was.queues.items) top (Ours was.header)
-          (files_of (now (g.D.NodeDisk.past was.disk)))).files;
+          (files_of (now (g.D.NodeDisk.facts.past was.disk)))).files;
       world = on.lanes;
     }) (map CarryRecord (carries_in c.as_slice.result.now))
     (next-file was.queues.items (c.the_log_has_a_format.ensures was.queues.items) was.header header
-    was.marks was.size was.numbers (now (g.D.NodeDisk.past was.disk)) on
+    was.marks was.size was.numbers (now (g.D.NodeDisk.facts.past was.disk)) on
     (c.requires.sound.synced told c.if-self.false c.requires.synced) c.requires.sound.queues_are
     c.requires.sound.carries (λ id s. (c.carries_restate.ensures.exact (carry_of id s) s).1 refl)
     c.as_slice.result.now c.as_slice.ensures c.requires.sound.number c.in-Ok.ensures.ok refl refl
@@ -87,11 +87,11 @@ returns-clause-may g c = λ told before.
     c.begin_file.ensures.may told was.queues.items
     (record {
       files = was.header.file ∷ (found_behind (wal was.queues.items) top (Ours was.header)
-          (files_of (now (g.D.NodeDisk.past was.disk)))).files;
+          (files_of (now (g.D.NodeDisk.facts.past was.disk)))).files;
       world = on.lanes;
     }) (map CarryRecord (carries_in c.as_slice.result.now))
     (next-file was.queues.items (c.the_log_has_a_format.ensures was.queues.items) was.header header
-    was.marks was.size was.numbers (now (g.D.NodeDisk.past was.disk)) on
+    was.marks was.size was.numbers (now (g.D.NodeDisk.facts.past was.disk)) on
     (c.requires.sound.synced told c.if-self.false c.requires.synced) c.requires.sound.queues_are
     c.requires.sound.carries (λ id s. (c.carries_restate.ensures.exact (carry_of id s) s).1 refl)
     c.as_slice.result.now c.as_slice.ensures c.requires.sound.number c.in-Ok.ensures.ok refl refl
@@ -103,15 +103,15 @@ returns-clause-holds g c = λ told.
     let was = c.args.self.now in
     let header : Header = record { file = c.in-Ok.number; previous = was.header.file; good = was.size } in
     let on = c.requires.sound.on_disk told c.if-self.false in
-    still-holds was.queues.items (now (g.D.NodeDisk.past was.disk)) (now (g.D.NodeDisk.past c.begin_file.new.disk))
-    (c.in_default.ensures.shown told was.queues.items
+    still-holds was.queues.items (now (g.D.NodeDisk.facts.past was.disk))
+    (now (g.D.NodeDisk.facts.past c.begin_file.new.disk)) (c.in_default.ensures.shown told was.queues.items
     (record {
       files = was.header.file ∷ (found_behind (wal was.queues.items) top (Ours was.header)
-          (files_of (now (g.D.NodeDisk.past was.disk)))).files;
+          (files_of (now (g.D.NodeDisk.facts.past was.disk)))).files;
       world = on.lanes;
     }) (map CarryRecord (carries_in c.as_slice.result.now))
     (next-file was.queues.items (c.the_log_has_a_format.ensures was.queues.items) was.header header
-    was.marks was.size was.numbers (now (g.D.NodeDisk.past was.disk)) on
+    was.marks was.size was.numbers (now (g.D.NodeDisk.facts.past was.disk)) on
     (c.requires.sound.synced told c.if-self.false c.requires.synced) c.requires.sound.queues_are
     c.requires.sound.carries (λ id s. (c.carries_restate.ensures.exact (carry_of id s) s).1 refl)
     c.as_slice.result.now c.as_slice.ensures c.requires.sound.number c.in-Ok.ensures.ok refl refl
@@ -133,19 +133,19 @@ returns-clause-sound g c = record {
       let header : Header = record { file = c.in-Ok.number; previous = was.header.file; good = was.size } in
       let on = c.requires.sound.on_disk before c.if-self.false in
       next-on-disk was.queues.items (c.the_log_has_a_format.ensures was.queues.items) was.header header
-      was.marks was.size was.numbers (now (g.D.NodeDisk.past was.disk)) on
+      was.marks was.size was.numbers (now (g.D.NodeDisk.facts.past was.disk)) on
       (c.requires.sound.synced before c.if-self.false c.requires.synced) c.requires.sound.queues_are
       c.requires.sound.carries (λ id s. (c.carries_restate.ensures.exact (carry_of id s) s).1 refl)
       c.len-size.result (record { log = c.in-Ok.number; segment = was.numbers.segment; snapshot = was.numbers.snapshot })
-      (now (g.D.NodeDisk.past c.begin_file.new.disk)) refl (omega (arith, c.in-Ok.ensures.ok))
+      (now (g.D.NodeDisk.facts.past c.begin_file.new.disk)) refl (omega (arith, c.in-Ok.ensures.ok))
       (c.in_default.ensures.log before was.queues.items
       (record {
         files = was.header.file ∷ (found_behind (wal was.queues.items) top (Ours was.header)
-            (files_of (now (g.D.NodeDisk.past was.disk)))).files;
+            (files_of (now (g.D.NodeDisk.facts.past was.disk)))).files;
         world = on.lanes;
       }) (map CarryRecord (carries_in c.as_slice.result.now))
       (next-file was.queues.items (c.the_log_has_a_format.ensures was.queues.items) was.header header
-      was.marks was.size was.numbers (now (g.D.NodeDisk.past was.disk)) on
+      was.marks was.size was.numbers (now (g.D.NodeDisk.facts.past was.disk)) on
       (c.requires.sound.synced before c.if-self.false c.requires.synced) c.requires.sound.queues_are
       c.requires.sound.carries (λ id s. (c.carries_restate.ensures.exact (carry_of id s) s).1 refl)
       c.as_slice.result.now c.as_slice.ensures c.requires.sound.number c.in-Ok.ensures.ok refl refl
@@ -154,11 +154,11 @@ returns-clause-sound g c = record {
       (c.in_default.ensures.shown before was.queues.items
       (record {
         files = was.header.file ∷ (found_behind (wal was.queues.items) top (Ours was.header)
-            (files_of (now (g.D.NodeDisk.past was.disk)))).files;
+            (files_of (now (g.D.NodeDisk.facts.past was.disk)))).files;
         world = on.lanes;
       }) (map CarryRecord (carries_in c.as_slice.result.now))
       (next-file was.queues.items (c.the_log_has_a_format.ensures was.queues.items) was.header header
-      was.marks was.size was.numbers (now (g.D.NodeDisk.past was.disk)) on
+      was.marks was.size was.numbers (now (g.D.NodeDisk.facts.past was.disk)) on
       (c.requires.sound.synced before c.if-self.false c.requires.synced) c.requires.sound.queues_are
       c.requires.sound.carries (λ id s. (c.carries_restate.ensures.exact (carry_of id s) s).1 refl)
       c.as_slice.result.now c.as_slice.ensures c.requires.sound.number c.in-Ok.ensures.ok refl refl
@@ -167,11 +167,11 @@ returns-clause-sound g c = record {
       (search rules ∙ sym (c.in_default.ensures.length before was.queues.items
       (record {
         files = was.header.file ∷ (found_behind (wal was.queues.items) top (Ours was.header)
-            (files_of (now (g.D.NodeDisk.past was.disk)))).files;
+            (files_of (now (g.D.NodeDisk.facts.past was.disk)))).files;
         world = on.lanes;
       }) (map CarryRecord (carries_in c.as_slice.result.now))
       (next-file was.queues.items (c.the_log_has_a_format.ensures was.queues.items) was.header header
-      was.marks was.size was.numbers (now (g.D.NodeDisk.past was.disk)) on
+      was.marks was.size was.numbers (now (g.D.NodeDisk.facts.past was.disk)) on
       (c.requires.sound.synced before c.if-self.false c.requires.synced) c.requires.sound.queues_are
       c.requires.sound.carries (λ id s. (c.carries_restate.ensures.exact (carry_of id s) s).1 refl)
       c.as_slice.result.now c.as_slice.ensures c.requires.sound.number c.in-Ok.ensures.ok refl refl
@@ -180,11 +180,11 @@ returns-clause-sound g c = record {
       (c.in_default.ensures.others before was.queues.items
       (record {
         files = was.header.file ∷ (found_behind (wal was.queues.items) top (Ours was.header)
-            (files_of (now (g.D.NodeDisk.past was.disk)))).files;
+            (files_of (now (g.D.NodeDisk.facts.past was.disk)))).files;
         world = on.lanes;
       }) (map CarryRecord (carries_in c.as_slice.result.now))
       (next-file was.queues.items (c.the_log_has_a_format.ensures was.queues.items) was.header header
-      was.marks was.size was.numbers (now (g.D.NodeDisk.past was.disk)) on
+      was.marks was.size was.numbers (now (g.D.NodeDisk.facts.past was.disk)) on
       (c.requires.sound.synced before c.if-self.false c.requires.synced) c.requires.sound.queues_are
       c.requires.sound.carries (λ id s. (c.carries_restate.ensures.exact (carry_of id s) s).1 refl)
       c.as_slice.result.now c.as_slice.ensures c.requires.sound.number c.in-Ok.ensures.ok refl refl
@@ -198,11 +198,11 @@ returns-clause-sound g c = record {
       (c.in_default.ensures.log before was.queues.items
       (record {
         files = was.header.file ∷ (found_behind (wal was.queues.items) top (Ours was.header)
-            (files_of (now (g.D.NodeDisk.past was.disk)))).files;
+            (files_of (now (g.D.NodeDisk.facts.past was.disk)))).files;
         world = on.lanes;
       }) (map CarryRecord (carries_in c.as_slice.result.now))
       (next-file was.queues.items (c.the_log_has_a_format.ensures was.queues.items) was.header header
-      was.marks was.size was.numbers (now (g.D.NodeDisk.past was.disk)) on
+      was.marks was.size was.numbers (now (g.D.NodeDisk.facts.past was.disk)) on
       (c.requires.sound.synced before c.if-self.false c.requires.synced) c.requires.sound.queues_are
       c.requires.sound.carries (λ id s. (c.carries_restate.ensures.exact (carry_of id s) s).1 refl)
       c.as_slice.result.now c.as_slice.ensures c.requires.sound.number c.in-Ok.ensures.ok refl refl
@@ -217,23 +217,24 @@ returns-clause-sound g c = record {
       let clean = c.requires.sound.synced before c.if-self.false c.requires.synced in
       let found : Found (wal was.queues.items) = record {
         files = was.header.file ∷ (found_behind (wal was.queues.items) top (Ours was.header)
-            (files_of (now (g.D.NodeDisk.past was.disk)))).files;
+            (files_of (now (g.D.NodeDisk.facts.past was.disk)))).files;
         world = on.lanes;
       } in
       let carries = map CarryRecord (carries_in c.as_slice.result.now) in
       let continues = next-file was.queues.items laws was.header header was.marks was.size was.numbers
-      (now (g.D.NodeDisk.past was.disk)) on clean c.requires.sound.queues_are c.requires.sound.carries
+      (now (g.D.NodeDisk.facts.past was.disk)) on clean c.requires.sound.queues_are c.requires.sound.carries
       (λ id s. (c.carries_restate.ensures.exact (carry_of id s) s).1 refl)
       c.as_slice.result.now c.as_slice.ensures c.requires.sound.number c.in-Ok.ensures.ok refl refl
       c.begin_file.ensures.range (in_top c.in-Ok.number c.begin_file.ensures.range.0) c.in-Ok-first_bytes.ensures.fits in
       let is = c.as_slice-2.ensures.value ∙ c.in-Ok-first_bytes.ensures.ok was.queues.items in
       let log = c.in_default.ensures.log before was.queues.items found carries continues is in
-      kept-as was.queues.items was.header header was.marks (now (g.D.NodeDisk.past was.disk))
-      (now (g.D.NodeDisk.past c.begin_file.new.disk))
-      (clean-kept was.queues.items laws header was.marks (now (g.D.NodeDisk.past c.begin_file.new.disk)) log.0 log.1
+      kept-as was.queues.items was.header header was.marks (now (g.D.NodeDisk.facts.past was.disk))
+      (now (g.D.NodeDisk.facts.past c.begin_file.new.disk))
+      (clean-kept was.queues.items laws header was.marks
+      (now (g.D.NodeDisk.facts.past c.begin_file.new.disk)) log.0 log.1
       ∙ c.in_default.ensures.shown before was.queues.items found carries continues is
-      ∙ sym (clean-kept was.queues.items laws was.header was.marks (now (g.D.NodeDisk.past was.disk)) on.log clean))
-      (c.requires.sound.kept before c.if-self.false);
+      ∙ sym (clean-kept was.queues.items laws was.header was.marks
+      (now (g.D.NodeDisk.facts.past was.disk)) on.log clean)) (c.requires.sound.kept before c.if-self.false);
 }
 
 pub returns-clause-ok : goal.returns-clause-ok
@@ -262,15 +263,15 @@ returns-clause-ok g c =
 
 pub returns-in-Err-begin_file-clause-sound : goal.returns-in-Err-begin_file-clause-sound
 returns-in-Err-begin_file-clause-sound g c =
-    still-sound g.D.NodeDisk.tells g.D.NodeDisk.past c.args.self.now c.begin_file.new.disk c.in-Err-begin_file.half
-    c.requires.sound c.if-self.false c.begin_file.ensures.told c.in-Err-begin_file.ensures.want
+    still-sound g.D.NodeDisk.facts c.args.self.now c.begin_file.new.disk c.in-Err-begin_file.half c.requires.sound
+    c.if-self.false c.begin_file.ensures.told c.in-Err-begin_file.ensures.want
 
 pub returns-in-Err-begin_file-clause-stops : goal.returns-in-Err-begin_file-clause-stops
 returns-in-Err-begin_file-clause-stops g c = λ told.
     let was = c.args.self.now in
     roll-stops _ (was.numbers.log + 1) c.in-Ok.number was.stopped c.in-Err-begin_file.half c.in-Err-begin_file.fault
-    c.fault_of.result (now (g.D.NodeDisk.past c.begin_file.new.disk)) (g.D.NodeDisk.faults was.disk)
-    (g.D.NodeDisk.faults c.begin_file.new.disk) c.fault_of.ensures c.if-self.false (sym c.in-Ok.ensures.ok)
+    c.fault_of.result (now (g.D.NodeDisk.facts.past c.begin_file.new.disk)) (g.D.NodeDisk.facts.faults was.disk)
+    (g.D.NodeDisk.facts.faults c.begin_file.new.disk) c.fault_of.ensures c.if-self.false (sym c.in-Ok.ensures.ok)
     c.in-Err-begin_file.ensures.failed (c.in-Err-begin_file.ensures.half told) c.in-Err-begin_file.ensures.cause.cause
 
 pub returns-in-Err-begin_file-clause-failed : goal.returns-in-Err-begin_file-clause-failed
@@ -283,12 +284,12 @@ returns-in-Err-begin_file-clause-moments g c = λ told. c.in-Err-begin_file.ensu
 
 pub returns-in-Err-begin_file-clause-beside : goal.returns-in-Err-begin_file-clause-beside
 returns-in-Err-begin_file-clause-beside g c = λ told.
-    let past = g.D.NodeDisk.past in
+    let past = g.D.NodeDisk.facts.past in
     beside-log c.in-Ok.number (c.args.self.now.numbers.log + 1) (past c.args.self.now.disk)
     (past c.begin_file.new.disk) c.in-Ok.ensures.ok (c.begin_file.ensures.beside told)
 
 pub returns-clause-beside : goal.returns-clause-beside
 returns-clause-beside g c = λ told.
-    let past = g.D.NodeDisk.past in
+    let past = g.D.NodeDisk.facts.past in
     beside-log c.in-Ok.number (c.args.self.now.numbers.log + 1) (past c.args.self.now.disk)
     (past c.begin_file.new.disk) c.in-Ok.ensures.ok (c.begin_file.ensures.beside told)

@@ -36,8 +36,8 @@ returns-clause-noticed g c = λ told.
 
 pub returns-clause-holds : goal.returns-clause-holds
 returns-clause-holds g c = λ told.
-    shown-holds c.args.self.now.queues.items (now (g.D.NodeDisk.past c.args.self.now.disk))
-    (now (g.D.NodeDisk.past c.sync_file.new.disk)) (c.in_default.ensures.shown told)
+    shown-holds c.args.self.now.queues.items (now (g.D.NodeDisk.facts.past c.args.self.now.disk))
+    (now (g.D.NodeDisk.facts.past c.sync_file.new.disk)) (c.in_default.ensures.shown told)
 
 pub returns-clause-ahead : goal.returns-clause-ahead
 returns-clause-ahead g c =
@@ -63,9 +63,9 @@ returns-clause-sound g c =
           let before = told_before c.sync_file.ensures.told told in
           let on = c.requires.on_disk before c.if-self.false in
           subst (λ (l : List Mark). IsOnDisk was.queues.items was.header l was.size was.numbers
-          (now (g.D.NodeDisk.past c.sync_file.new.disk))) (sym marks)
+          (now (g.D.NodeDisk.facts.past c.sync_file.new.disk))) (sym marks)
           (now-synced was.queues.items was.header was.marks was.size was.numbers
-          (now (g.D.NodeDisk.past was.disk)) (now (g.D.NodeDisk.past c.sync_file.new.disk)) on
+          (now (g.D.NodeDisk.facts.past was.disk)) (now (g.D.NodeDisk.facts.past c.sync_file.new.disk)) on
           (c.in_default.ensures.log before was.queues.items on.log (c.requires.synced before c.if-self.false)).0
           (c.in_default.ensures.shown before));
       synced = λ told going clean.
@@ -76,13 +76,15 @@ returns-clause-sound g c =
           let before = told_before c.sync_file.ensures.told told in
           let on = c.requires.on_disk before c.if-self.false in
           let log = c.in_default.ensures.log before was.queues.items on.log (c.requires.synced before c.if-self.false) in
-          let shown = same-lanes was.queues.items (now (g.D.NodeDisk.past was.disk))
-          (now (g.D.NodeDisk.past c.sync_file.new.disk)) (c.in_default.ensures.shown before) in
+          let shown = same-lanes was.queues.items (now (g.D.NodeDisk.facts.past was.disk))
+          (now (g.D.NodeDisk.facts.past c.sync_file.new.disk)) (c.in_default.ensures.shown before) in
           subst (λ (l : List Mark). IsKept was.queues.items was.header l
-          (now (g.D.NodeDisk.past c.sync_file.new.disk))) (sym marks)
-          (synced-kept was.queues.items was.header was.marks (now (g.D.NodeDisk.past c.sync_file.new.disk)) on.lanes
+          (now (g.D.NodeDisk.facts.past c.sync_file.new.disk))) (sym marks)
+          (synced-kept was.queues.items was.header was.marks
+          (now (g.D.NodeDisk.facts.past c.sync_file.new.disk)) on.lanes
           (clean-kept was.queues.items (c.the_log_has_a_format.ensures was.queues.items) was.header was.marks
-          (now (g.D.NodeDisk.past c.sync_file.new.disk)) log.0 log.1 ∙ shown ∙ on.shown) c.requires.counted on.agree);
+          (now (g.D.NodeDisk.facts.past c.sync_file.new.disk)) log.0 log.1 ∙ shown ∙ on.shown)
+          c.requires.counted on.agree);
     }
 
 pub returns-clause-names_synced : goal.returns-clause-names_synced
@@ -97,8 +99,8 @@ returns-clause-names_synced g c = λ told.
 
 pub returns-in-Err-sync_file-clause-sound : goal.returns-in-Err-sync_file-clause-sound
 returns-in-Err-sync_file-clause-sound g c =
-    let past = g.D.NodeDisk.past in
-    still-sound g.D.NodeDisk.tells past c.args.self.now c.sync_file.new.disk c.is_failure-self.result c.requires
+    let past = g.D.NodeDisk.facts.past in
+    still-sound g.D.NodeDisk.facts c.args.self.now c.sync_file.new.disk c.is_failure-self.result c.requires
     c.if-self.false c.sync_file.ensures.told
     (λ told. stays-at-want (past c.args.self.now.disk) (past c.sync_file.new.disk) c.in-Err-sync_file.fault
     c.is_failure-self.result c.is_failure-self.ensures (c.in-Err-sync_file.ensures.want told))
@@ -110,6 +112,6 @@ returns-in-Err-sync_file-clause-stops g c =
 
 pub returns-in-Err-sync_file-clause-moments : goal.returns-in-Err-sync_file-clause-moments
 returns-in-Err-sync_file-clause-moments g c = λ told.
-    let past = g.D.NodeDisk.past in
+    let past = g.D.NodeDisk.facts.past in
     stays-at-want (past c.args.self.now.disk) (past c.sync_file.new.disk) c.in-Err-sync_file.fault
     c.is_failure-self.result c.is_failure-self.ensures (c.in-Err-sync_file.ensures.want told)
