@@ -1,5 +1,5 @@
 -- A broker is called: what is heard of a command that is given, and of the pump after it.
-use Rattle.std.proofs.Common.{◌≡◌, ◌+◌, ℕ, List, [], ◌∷◌, ◌++◌, Option, None, Some, refl, sym, ap, subst, ◌∙◌, append_assoc, append-nil}
+use Rattle.std.proofs.Common.{◌≡◌, ◌+◌, ℕ, List, [], ◌∷◌, ◌++◌, Option, Some, refl, sym, ap, subst, ◌∙◌, append_assoc, append-nil}
 use Rattle.std.specs.Prelude.{filter, filter_map, not}
 use Rattle.std.specs.Option.{option_map}
 use Rattle.std.proofs.lemmas.List.Elements.{filter-append, filter_map-append}
@@ -19,15 +19,15 @@ use Rattle.qq_cluster.specs.Outcome.{Outcome, all_heard, delivery_in, takers_aft
 use Rattle.qq_cluster.specs.Rules.{IsGiven, IsPump, is_idle, most_rounds}
 use Rattle.qq_cluster.proofs.Outcomes.{cluster-append, takers-both}
 use Rattle.qq_cluster_laws.specs.Serves.{Serves}
-use Rattle.qq_cluster_run.specs.Serving.{Run, after_all, cluster_in, setup_in}
-use Rattle.qq_nodes.specs.Nodes.{EndsAt, GaveUp, Served, Stands, seen}
+use Rattle.qq_cluster_run.specs.Serving.{Run, cluster_in, setup_in}
+use Rattle.qq_nodes.specs.Nodes.{GaveUp, Served, Stands, seen}
 use Rattle.qq_nodes.specs.declared.nodes.Nodes.{Nodes}
 use Rattle.qq_nodes.proofs.Joined.{Joined, served-join}
 use Rattle.qq_nodes.proofs.Outcomes.{outcome_after}
 use Rattle.qq_nodes.proofs.Stands.{gave_up-first, gave_up-second}
 use Rattle.qq_nodes.proofs.Total.{total-pumps}
-use Rattle.qq_broker.specs.Broker.{Runs, is_done}
-use Rattle.qq_broker.specs.Calling.{HasCalled, Hears, HearsCall, IsCall, IsCallGivenUp, Sorts, StopsCall, handed_heard, heard_after, is_heard_at, outcome_heard, others_heard, row_told, rows_heard}
+use Rattle.qq_broker.specs.Broker.{Runs}
+use Rattle.qq_broker.specs.Calling.{HasCalled, HearsCall, IsCall, IsCallGivenUp, Sorts, StopsCall, handed_heard, heard_after, is_heard_at, outcome_heard, others_heard, row_told, rows_heard}
 use Rattle.qq_broker.specs.Lives.{Giving}
 use Rattle.qq_broker.specs.Nodes.{Holds, Meets}
 use Rattle.qq_broker.specs.Serving.{run_after}

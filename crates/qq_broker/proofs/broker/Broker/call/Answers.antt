@@ -3,8 +3,6 @@ use Rattle.std.proofs.lemmas.Result.{IfErr-weaker, IfOk-weaker}
 use Rattle.qq_taker.specs.Takers.{hear_on}
 use Rattle.qq_taker.specs.declared.heard.Heard.{Heard}
 use Rattle.qq_cluster.specs.Outcome.{Outcome}
-use Rattle.qq_broker.specs.Calling.{HasCalled, HearsCall, IsCallGivenUp, StopsCall}
-use Rattle.qq_broker.specs.Nodes.{Meets}
 use Rattle.qq_broker.proofs.Calls.{call-given-up, has-called}
 use Rattle.qq_broker.proofs.GoingOn.{queue-there}
 use Rattle.qq_broker.proofs.broker.Broker.call.Goals as goal
