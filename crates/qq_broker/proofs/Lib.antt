@@ -39,6 +39,7 @@ pub mod Following
 pub mod Unharmed
 pub mod Harmless
 pub mod RunDisks
+pub mod RestDisks
 pub mod Stops
 pub mod Handed
 pub mod Stepped
