@@ -74,7 +74,8 @@ of-unopened met s ending (inr (logs, inr (inr (inr so)))) = of-spent met (cluste
 
 -- where no taker is missed
 abbrev HasTakers : (Trouble → Type 0) → Type 0
-HasTakers met = (setup : ClusterSetup) (events : List ClusterEvent) (number : ℕ) → met (TakerIsGone setup events number) → ⊥
+HasTakers met =
+    (setup : ClusterSetup) (events : List ClusterEvent) (number : ℕ) → met (TakerIsGone setup events number) → ⊥
 
 of-line : (met : Trouble → Type 0) → HasTakers met → (setup : ClusterSetup) (events : List ClusterEvent) (number : ℕ)
     (line : ScriptLine) (ending : Ending) → StopsAt met setup events number line ending → Cause met ending
@@ -202,7 +203,8 @@ module _ {D : Type 0} (given : Giving D) (facts : DiskFacts D) (number nodes : �
   Wrote text = Appends before.sink.written later.sink.written text
 
   pub drill-statuses : (status : ℕ) → Ends status
-      → (status ≡ 0) ⊎ ((status ≡ 6) ⊎ ((status ≡ 7) ⊎ ((status ≡ 8) ⊎ ((status ≡ 9) ⊎ ((status ≡ 12) ⊎ (status ≡ 20))))))
+      → (status ≡ 0)
+      ⊎ ((status ≡ 6) ⊎ ((status ≡ 7) ⊎ ((status ≡ 8) ⊎ ((status ≡ 9) ⊎ ((status ≡ 12) ⊎ (status ≡ 20))))))
   drill-statuses status so = by (so-ended status so)
     where
       which : (text : List ℕ) → Status Met status text

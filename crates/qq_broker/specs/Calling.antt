@@ -113,8 +113,8 @@ abbrev pub claimed_by : Option ℕ → Queue → (session : ℕ) → Result (Uni
 claimed_by (Some id) q session = Err (refusals.NotTaken id)
 claimed_by None q session = handed_to q session
 
--- A session that has ended gives no command, and none gives one for a delivery that wasn't handed out, or one beyond its
--- window. Each other command is given where a leader is ready.
+-- A session that has ended gives no command, and none gives one for a delivery that wasn't handed out, or one beyond
+-- its window. Each other command is given where a leader is ready.
 abbrev pub outcome_at : Queue → (session : ℕ) → Unstamped → Result (Unit {0}) Refusal
 outcome_at q session body =
     if is_ended session q then Err refusals.Ended else claimed_by (not_taken session body q) q session

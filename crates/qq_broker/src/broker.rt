@@ -151,8 +151,10 @@ impl<D: NodeDisk> Audits<D> {
             × Rests given D.facts t disks self.now run
             × Contains (setup_at t run).places queue.0))) }
         ensures ok { (given : Giving D) (t : SetupState) (disks : List D) (run : Run) →
-            Rests given D.facts t disks self.now run → OnOk result (text.new.items ≡ text.old.items
-            ++ audit_text ((setup_at t run).name queue.0) 0 (audit_rows ((cluster_at t run).queue queue.0))) }
+            Rests given D.facts t disks self.now run →
+            OnOk result (text.new.items ≡ text.old.items
+            ++ audit_text ((setup_at t run).name queue.0) 0
+            (audit_rows ((cluster_at t run).queue queue.0))) }
         ensures err { OnErr result (IsFront text.old.items text.new.items) }
         ensures cause { (given : Giving D) (t : SetupState) (disks : List D) (run : Run) →
             Rests given D.facts t disks self.now run →

@@ -92,7 +92,8 @@ fn answer(
 ) -> Result<Called, Memory>
     ensures outcome { IfOk result (λ called. called.outcome ≡ outcome) }
     ensures rows { IfOk result (λ called. called.rows.items ≡ rows_heard queue.0 list.items) }
-    ensures effects { IfOk result (λ called. called.effects.items ≡ handed_heard queue.0 list.items) }
+    ensures effects { IfOk result (λ called.
+        called.effects.items ≡ handed_heard queue.0 list.items) }
     ensures others { IfOk result (λ called. called.others.items ≡ others_heard queue.0 list.items) }
     ensures pumped { IfOk result (λ called. called.pumped ≡ pumped) }
     ensures want { IsOkUnless result Memory.Want }

@@ -331,8 +331,8 @@ fn run_command<S: Shelf, Y: Yard, T: Taker, I: Source, O: Sink>(
     }
 }
 
-/// Runs the program on its words, an input, an output, a shelf, a yard and takers, and answers the exit status. The words
-/// are read by `read_words`.
+/// Runs the program on its words, an input, an output, a shelf, a yard and takers, and answers the exit status. The
+/// words are read by `read_words`.
 ///
 /// - `script`: its setup is made of the words alone, or of the shelf's file that they name. The nodes of a cluster are
 ///   opened over disks of the yard, those under the root that the words name or new ones, the input's lines are served,
@@ -340,13 +340,13 @@ fn run_command<S: Shelf, Y: Yard, T: Taker, I: Source, O: Sink>(
 /// - `dump`: the text of the log files that a node's disk under a root shows is written.
 /// - `drill`: a script is drawn from a number and served over new disks, and one line is written of it.
 /// - `ends`: what a run has done that ends with this status (`a_status_tells_what_was_done`, `exports_are_read_first`,
-///   `a_dump_tells_what_was_done`). What a script has written is the line of what was made of an export, the text of
-///   some events that the lines allow, and then the audits, or a first part of that and a closing line. Where these
-///   events happened, each node's disk is what has become of one that the yard gave for that node under the root, and
-///   the run's logs are those that the disk held (`Had`); without a root nothing was ever on it. Each taker that a line
-///   gave to a consumer was free then, and once all is served, or the next line is refused, the takers have seen what the
-///   events show (`RunClaims`). Each trouble was met in the yard, in such a disk, in the nodes or with the takers
-///   (`RunMeets`). A dump reads no input and changes nothing on the disk.
+///   `a_dump_tells_what_was_done`, `a_drill_tells_what_was_done`). What a script has written is the line of what was
+///   made of an export, the text of some events that the lines allow, and then the audits, or a first part of that and
+///   a closing line. Where these events happened, each node's disk is what has become of one that the yard gave for that
+///   node under the root, and the run's logs are those that the disk held (`Had`); without a root nothing was ever on
+///   it. Each taker that a line gave to a consumer was free then, and once all is served, or the next line is refused,
+///   the takers have seen what the events show (`RunClaims`). Each trouble was met in the yard, in such a disk, in the
+///   nodes or with the takers (`RunMeets`). A dump and a drill read no input, and a dump changes nothing on the disk.
 /// - `later`, `shelf_later`, `yard_later`: the counts of faults don't fall.
 pub fn run<R: AllocGlobal, I: Source, O: Sink, S: Shelf, Y: Yard, T: Taker>(
     rt: &R,

@@ -100,7 +100,8 @@ fn crash<Y: Yard>(
         Holds given Y.Disk.facts setup.now nodes.old run →
         OnOk result (IsServed given Y.Disk.facts setup.now run (Crash which image.now)
         nodes.new told told) }
-    ensures cause { (given : Giving Y.Disk) (run : Run) (number : ℕ) → IfErr result (λ fault. HasServeCause
+    ensures cause { (given : Giving Y.Disk) (run : Run) (number : ℕ) →
+        IfErr result (λ fault. HasServeCause
         (Meets given Y.Disk.facts (Y.faults yard.old) (Y.faults yard.new)) (setup_in setup.now run)
         run.events number (Crash which image.now)
         (step_stop setup.now number fault)) }

@@ -20,8 +20,8 @@ use std::alloc::Global;
 use std::mem;
 
 /// Serves a line that names what is there, as each that `parse_line` gives for the broker's setup does, and answers
-/// what was printed since text was handed out last: that of an opening and of pumps, and then that of the line. What the
-/// line hands out to consumers with a taker is offered to these takers.
+/// what was printed since text was handed out last: that of an opening and of pumps, and then that of the line. What
+/// the line hands out to consumers with a taker is offered to these takers.
 ///
 /// - `ok`: what happened is what the line allows, and the takers have seen what it shows.
 /// - `text`: all that was printed is handed out.
