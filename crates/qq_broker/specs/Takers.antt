@@ -1,5 +1,5 @@
 -- The takers of a run: which of them it gives to consumers, and what they have seen.
-use Rattle.std.specs.Prelude.{◌≡◌, ◌+◌, ℕ, true, false, List, [], ◌∷◌}
+use Rattle.std.specs.Prelude.{◌≡◌, ℕ, true, false, List, [], ◌∷◌}
 use Rattle.qq_disk.specs.Facts.{DiskFacts}
 use Rattle.qq_script_lines.specs.declared.line.ScriptLine.{ScriptLine}
 use Rattle.qq_script_lines.specs.declared.line.ScriptLine.TheVariants.{Attach}

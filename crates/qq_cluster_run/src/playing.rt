@@ -1,5 +1,5 @@
 //! What a drill has shown so far, and the line that is written of it in the end.
-ghost use Rattle.std.specs.Prelude.{◌≡◌, ◌<◌, ◌≤◌, ◌++◌, ◌∷◌, [], length, string_bytes, IfOk, IsOkUnless, OnOk};
+ghost use Rattle.std.specs.Prelude.{◌≡◌, ◌<◌, ◌≤◌, ◌++◌, ◌∷◌, [], codes, length, string_bytes, IfOk, IsOkUnless, OnOk};
 ghost use Rattle.qq_setup.specs.Setup.{state_of};
 ghost use Rattle.qq_defs.specs.Runnable.{IsRunnable};
 ghost use Rattle.qq_cluster.specs.Outcome.{deliveries_among};
@@ -126,6 +126,18 @@ fn first_digits(alloc: Global, digest: [u8; 32]) -> Result<String, Memory>
     Ok(hex::encode(alloc, &digest[..8])?)
 }
 
+// A digest's first digits, at the end of a line.
+fn push_digest(alloc: Global, line: &mut Vec<u8>, digest: [u8; 32]) -> Result<(), Memory>
+    ensures ok { OnOk result (line.new.items
+        ≡ line.old.items ++ codes " digest " ++ first_digits digest ++ codes "\n") }
+    ensures want { IsOkUnless result Memory.Want }
+{
+    let digits = first_digits(alloc, digest)?;
+    push_text(line, " digest ")?;
+    push_text(line, digits.as_str())?;
+    push_text(line, "\n")
+}
+
 /// The line that is written of a drill.
 pub fn summary(
     alloc: Global,
@@ -139,14 +151,11 @@ pub fn summary(
         line.items ≡ summary number rows confirmed delivered digest) }
     ensures want { IsOkUnless result Memory.Want }
 {
-    let digits = first_digits(alloc, digest)?;
     let mut line = Vec::new(alloc);
     push_count(&mut line, "drill ", number)?;
     push_count(&mut line, " rows ", rows)?;
     push_count(&mut line, " confirmed ", confirmed)?;
     push_count(&mut line, " delivered ", delivered)?;
-    push_text(&mut line, " digest ")?;
-    push_text(&mut line, digits.as_str())?;
-    push_text(&mut line, "\n")?;
+    push_digest(alloc, &mut line, digest)?;
     Ok(line)
 }

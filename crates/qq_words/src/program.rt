@@ -102,15 +102,49 @@ fn top<'a>(alloc: Global) -> Command<'a>
         .subcommand_required(true)
 }
 
+// Each command is made where it goes, so that no other one waits for it.
+fn with_script<'a>(alloc: Global, command: Command<'a>) -> Result<Command<'a>, AllocError>
+    ensures { IfOk result (λ new. app_of new ≡ with_subcommand (app_of command.entry) script.top) }
+{
+    match script(alloc) {
+        Ok(script) => with_subcommand(command, script),
+        Err(cause) => {
+            drop(command);
+            Err(cause)
+        }
+    }
+}
+
+fn with_dump<'a>(alloc: Global, command: Command<'a>) -> Result<Command<'a>, AllocError>
+    ensures { IfOk result (λ new. app_of new ≡ with_subcommand (app_of command.entry) dump.top) }
+{
+    match dump(alloc) {
+        Ok(dump) => with_subcommand(command, dump),
+        Err(cause) => {
+            drop(command);
+            Err(cause)
+        }
+    }
+}
+
+fn with_drill<'a>(alloc: Global, command: Command<'a>) -> Result<Command<'a>, AllocError>
+    ensures { IfOk result (λ new. app_of new ≡ with_subcommand (app_of command.entry) drill.top) }
+{
+    match drill(alloc) {
+        Ok(drill) => with_subcommand(command, drill),
+        Err(cause) => {
+            drop(command);
+            Err(cause)
+        }
+    }
+}
+
 /// The program's commands, with their options.
 pub fn program<'a>(alloc: Global) -> Result<Command<'a>, AllocError>
     ensures { IfOk result (λ command. app_of command ≡ program) }
 {
-    let script = script(alloc)?;
-    let dump = dump(alloc)?;
-    let drill = drill(alloc)?;
-    let with_script = with_subcommand(top(alloc), script)?;
-    let with_dump = with_subcommand(with_script, dump)?;
-    let program = with_subcommand(with_dump, drill)?;
+    let program = with_script(alloc, top(alloc))?;
+    let program = with_dump(alloc, program)?;
+    let program = with_drill(alloc, program)?;
     Ok(program)
 }
