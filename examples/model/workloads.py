@@ -104,6 +104,16 @@ class Plain(Workload):
         self.add(f"crash {node} cut {left}")
 
 
+class Long(Plain):
+    """The same with few crashes: a restart reads its node's whole log, so many of them take the square of the lines."""
+
+    def crash_or_restart(self, place, node, left):
+        if self.cluster.down or self.steps % 256 == 0:
+            super().crash_or_restart(place, node, left)
+        else:
+            self.send(place)
+
+
 class Drill(Plain):
     """The lines of `qq drill NUMBER`: so many steps of that workload, and then all is brought home."""
 
