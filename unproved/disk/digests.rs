@@ -3,14 +3,22 @@
 use crate::logs::bytes_of;
 use anyhow::{Result, ensure};
 use cases::{Random, Trials, run_each};
-use qq_digests::digests;
+use qq_digests::{digests, put_digests};
 use sha2::{Digest, Sha256};
 use std::alloc::Global;
 
 /// The examples of NIST for FIPS 180-4, and of the empty message: some text, how often it is repeated, the digest.
 const PUBLISHED: [(&str, usize, &str); 5] = [
-    ("", 1, "e3b0c44298fc1c149afbf4c8996fb92427ae41e4649b934ca495991b7852b855"),
-    ("abc", 1, "ba7816bf8f01cfea414140de5dae2223b00361a396177a9cb410ff61f20015ad"),
+    (
+        "",
+        1,
+        "e3b0c44298fc1c149afbf4c8996fb92427ae41e4649b934ca495991b7852b855",
+    ),
+    (
+        "abc",
+        1,
+        "ba7816bf8f01cfea414140de5dae2223b00361a396177a9cb410ff61f20015ad",
+    ),
     (
         "abcdbcdecdefdefgefghfghighijhijkijkljklmklmnlmnomnopnopq",
         1,
@@ -22,7 +30,11 @@ const PUBLISHED: [(&str, usize, &str); 5] = [
         1,
         "cf5b16a778af8380036ce59e7b0492370b249b11e8f07a51afac45037afee9d1",
     ),
-    ("a", 1_000_000, "cdc76e5c9914fb9281a1c7e284d73e67f1809a48a497200e046d39ccc7112cd0"),
+    (
+        "a",
+        1_000_000,
+        "cdc76e5c9914fb9281a1c7e284d73e67f1809a48a497200e046d39ccc7112cd0",
+    ),
 ];
 
 /// How many random messages are hashed in one call.
@@ -36,7 +48,7 @@ fn repeated(alloc: Global, text: &str, count: usize) -> Result<Vec<u8>> {
     Ok(bytes)
 }
 
-/// Each published message six times in a call, four of them side by side, and each with a prefix split off.
+/// Each published message eleven times in a call, eight of them side by side, and each with a prefix split off.
 fn published_messages_have_their_digests(rt: HostRuntime) -> Result<()> {
     let alloc = rt.alloc();
     for (text, count, wanted) in PUBLISHED {
@@ -44,8 +56,8 @@ fn published_messages_have_their_digests(rt: HostRuntime) -> Result<()> {
         let wanted = bytes_of(alloc, wanted)?;
         for split in [0, message.len() / 2, message.len()] {
             let (prefix, rest) = message.as_slice().split_at(split);
-            let found = digests(alloc, prefix, &[rest, rest, rest, rest, rest, rest])?;
-            ensure!(found.len() == 6);
+            let found = digests(alloc, prefix, &[rest; 11])?;
+            ensure!(found.len() == 11);
             ensure!(found.iter().all(|it| it.as_slice() == wanted.as_slice()));
         }
     }
@@ -95,7 +107,33 @@ fn check_messages(alloc: Global, random: &mut Random, bytes: &[u8], count: usize
     Ok(())
 }
 
-/// 10,000 random messages, and each count of messages below ten.
+/// Pieces of one run of bytes, whose digests are added to those of pieces before.
+fn check_pieces(
+    alloc: Global,
+    random: &mut Random,
+    bytes: &[u8],
+    found: &mut Vec<[u8; 32]>,
+    room: &mut Vec<u8>,
+) -> Result<()> {
+    let mut pieces = Vec::new(alloc);
+    let mut lengths = Vec::new(alloc);
+    let mut rest = bytes;
+    for _ in 0..random.below(AT_ONCE as u64) {
+        let length = (random.below(300) as usize).min(rest.len());
+        let (piece, more) = rest.split_at(length);
+        pieces.push(piece)?;
+        lengths.push(length)?;
+        rest = more;
+    }
+    let prefix = &bytes[..random.below(80) as usize];
+    let before = found.len();
+    put_digests(found, room, prefix, bytes, &lengths)?;
+    let (_, added) = found.as_slice().split_at(before);
+    ensure!(added == digests(alloc, prefix, &pieces)?.as_slice());
+    Ok(())
+}
+
+/// 10,000 random messages, and each count of messages below twenty.
 fn random_messages_have_the_digests_of_sha2(rt: HostRuntime) -> Result<()> {
     let alloc = rt.alloc();
     let mut random = Random::new(1);
@@ -103,11 +141,14 @@ fn random_messages_have_the_digests_of_sha2(rt: HostRuntime) -> Result<()> {
     for _ in 0..80_000 {
         bytes.push(random.below(256) as u8)?;
     }
-    for count in 0..10 {
+    for count in 0..20 {
         check_messages(alloc, &mut random, &bytes, count)?;
     }
+    let mut found = Vec::new(alloc);
+    let mut room = Vec::new(alloc);
     for _ in 0..100 {
         check_messages(alloc, &mut random, &bytes, AT_ONCE)?;
+        check_pieces(alloc, &mut random, &bytes, &mut found, &mut room)?;
     }
     Ok(())
 }

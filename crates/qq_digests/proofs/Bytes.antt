@@ -61,5 +61,5 @@ block_within bytes place size n fits =
     ∙ ap (take 64) (drop-drop (n * 64) place bytes ∙ ap (λ (k : ℕ). drop k bytes) (omega arith)))
 
 -- a word has 32 bits
-pub word_fits : (v : List ℕ) (j : ℕ) → length v ≡ 4 → Each1 (Fits w32) v → j < 4 → slice_index v j < 2 ^ 32
+pub word_fits : (v : List ℕ) (j : ℕ) → length v ≡ 8 → Each1 (Fits w32) v → j < 8 → slice_index v j < 2 ^ 32
 word_fits v j long fits lt = (Each1-get_or (Fits w32) v j 0 (omega arith) fits).fits

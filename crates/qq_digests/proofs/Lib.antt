@@ -1,4 +1,6 @@
 pub mod Blocks
 pub mod Bytes
+pub mod Eight
 pub mod Four
+pub mod Lengths
 pub mod Shifts

@@ -1,8 +1,7 @@
--- Four messages side by side: a vector has one word of each, and lane j of some vectors is what message j
+-- Eight messages side by side: a vector has one word of each, and lane j of some vectors is what message j
 -- has of them.
-use Rattle.std.specs.Prelude.{ℕ, ◌-◌, ◌*◌, List, [], ◌∷◌, ◌++◌, length, take, drop, map, replicate, slice_index, slice_index_or}
+use Rattle.std.specs.Prelude.{ℕ, ◌*◌, List, [], ◌∷◌, ◌++◌, take, drop, map, slice_index, slice_index_or}
 use Rattle.std.specs.Borrow.{Bor}
-use Rattle.sha2.specs.Sha256.{padded_message}
 
 -- lane j of vector i
 abbrev pub lane_at : List (List ℕ) → ℕ → ℕ → ℕ
@@ -21,10 +20,6 @@ words_of j vectors = map (λ v. slice_index v j) vectors
 -- the messages, each with a prefix before it
 abbrev pub with_prefix : List ℕ → List (Bor (List ℕ)) → List (List ℕ)
 with_prefix prefix messages = map (λ m. prefix ++ m.now) messages
-
--- a message with its padding, and zeros up to a size
-abbrev pub filled : ℕ → List ℕ → List ℕ
-filled size m = padded_message m ++ replicate (size - length (padded_message m)) 0
 
 -- the bytes of message j, where each message has so many
 abbrev pub bytes_of : ℕ → ℕ → List ℕ → List ℕ

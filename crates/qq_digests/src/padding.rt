@@ -1,12 +1,20 @@
 //! A message with its padding (FIPS 180-4, 5.1.1).
-ghost use Rattle.std.specs.Prelude.{◌≡◌, ℕ, ◌+◌, ◌*◌, ◌≤◌, ◌<◌, ◌^◌, ◌++◌, List, length, replicate, IsOkUnless, OnOk};
+ghost use Rattle.std.specs.Prelude.{◌≡◌, ℕ, ◌+◌, ◌*◌, ◌≤◌, ◌++◌, List, length, take};
+ghost use Rattle.qq_base.specs.Fronts.{IsFront};
 ghost use Rattle.sha2.specs.Sha256.{padded_message};
-ghost use Rattle.qq_digests.specs.Lanes.{filled};
-
-use qq_base::Memory;
 
 /// The bytes of a block.
 pub const BLOCK_LEN: usize = 64;
+
+/// The bytes of a message's length, which its padding ends with.
+const LENGTH_LEN: usize = 8;
+
+/// What padding begins with: a bit, and as many zeros as it may have.
+const PADDING: [u8; BLOCK_LEN] = [
+    0x80, 0, 0, 0, 0, 0, 0, 0, 0, 0, 0, 0, 0, 0, 0, 0, 0, 0, 0, 0, 0, 0, 0, 0, 0, 0, 0, 0, 0, 0, 0,
+    0, 0, 0, 0, 0, 0, 0, 0, 0, 0, 0, 0, 0, 0, 0, 0, 0, 0, 0, 0, 0, 0, 0, 0, 0, 0, 0, 0, 0, 0, 0, 0,
+    0,
+];
 
 /// How many blocks a message of this length has with its padding.
 fn block_count(len: usize) -> usize
@@ -22,45 +30,25 @@ pub fn blocks_of(prefix: &[u8], message: &[u8]) -> usize
     block_count(prefix.len() + message.len())
 }
 
-fn put_zeros(out: &mut Vec<u8>, count: usize) -> Result<(), Memory>
-    requires { count < 2 ^ 32 }
-    ensures ok { OnOk result (out.new.items ≡ out.old.items ++ replicate count 0) }
-    ensures want { IsOkUnless result Memory.Want }
+/// Writes the bytes at a place.
+#[inline(always)]
+fn put_at(bytes: &mut [u8], at: usize, more: &[u8])
+    requires { at + length more.now ≤ length bytes.old }
+    ensures { take (at + length more.now) bytes.new ≡ take at bytes.old ++ more.now }
 {
-    out.resize(out.len() + count, 0)?;
-    Ok(())
+    bytes[at..at + more.len()].copy_from_slice(more);
 }
 
-/// Adds `prefix` and the message as one message, with its padding.
-fn put_padded(out: &mut Vec<u8>, prefix: &[u8], message: &[u8]) -> Result<(), Memory>
-    ensures ok { OnOk result
-        (out.new.items ≡ out.old.items ++ padded_message (prefix.now ++ message.now)) }
-    ensures want { IsOkUnless result Memory.Want }
+/// Writes `prefix` and the message as one message with its padding. What follows it in `bytes` stays.
+pub fn put_padded(bytes: &mut [u8], prefix: &[u8], message: &[u8])
+    requires { length (padded_message (prefix.now ++ message.now)) ≤ length bytes.old }
+    ensures { IsFront (padded_message (prefix.now ++ message.now)) bytes.new }
 {
     let len = prefix.len() + message.len();
-    out.extend_from_slice(prefix)?;
-    out.extend_from_slice(message)?;
-    out.push(0x80)?;
-    put_zeros(out, (119 - len % BLOCK_LEN) % BLOCK_LEN)?;
+    let end = BLOCK_LEN * block_count(len) - LENGTH_LEN;
     let bits = (len as u64).wrapping_mul(8);
-    out.extend_from_slice(&bits.to_be_bytes())?;
-    Ok(())
-}
-
-/// Adds the same, and zeros up to `size` bytes.
-pub fn put_filled(
-    out: &mut Vec<u8>,
-    prefix: &[u8],
-    message: &[u8],
-    size: usize,
-) -> Result<(), Memory>
-    requires room { length (padded_message (prefix.now ++ message.now)) ≤ size }
-    requires size { size < 2 ^ 32 }
-    ensures ok { OnOk result
-        (out.new.items ≡ out.old.items ++ filled size (prefix.now ++ message.now)) }
-    ensures want { IsOkUnless result Memory.Want }
-{
-    let len = BLOCK_LEN * blocks_of(prefix, message);
-    put_padded(out, prefix, message)?;
-    put_zeros(out, size - len)
+    put_at(bytes, 0, prefix);
+    put_at(bytes, prefix.len(), message);
+    put_at(bytes, len, &PADDING[..end - len]);
+    put_at(bytes, end, &bits.to_be_bytes());
 }

@@ -1,8 +1,13 @@
-use Rattle.std.proofs.Common.{◌≡◌, ◌*◌, ◌++◌, map, take}
+use Rattle.std.proofs.Common.{◌≡◌, ◌*◌, ◌++◌, ◌≤◌, length, map, drop}
+use Rattle.std.specs.List.{sum}
 use Rattle.sha2.specs.Sha256.{sha256}
-use Rattle.qq_digests.specs.Lanes.{with_prefix}
+use Rattle.qq_digests.specs.Pieces.{pieces}
 use Rattle.qq_digests.proofs.put_digests.Given as goal
 
-abbrev pub invariant-fours : goal.invariant-fours
-invariant-fours l =
-    l.out.items ≡ l.initial.out.items ++ map sha256 (with_prefix l.prefix (take (4 * l.i) l.messages))
+-- what was added and the digests of the rest's pieces are all
+abbrev pub invariant-groups : goal.invariant-groups
+invariant-groups l = record {
+  added : l.out.items ++ map (λ piece. sha256 (l.prefix ++ piece)) (pieces (drop (8 * l.i) l.lengths) l.rest)
+      ≡ l.initial.out.items ++ map (λ piece. sha256 (l.prefix ++ piece)) (pieces l.lengths l.bytes);
+  room : sum (drop (8 * l.i) l.lengths) ≤ length l.rest;
+}

@@ -12,7 +12,7 @@ turns-init c = record {
   states = λ j lt. (λ i.
       c.splat.ensures j lt i ∷ c.splat-2.ensures j lt i ∷ c.splat-3.ensures j lt i ∷ c.splat-4.ensures j lt i
       ∷ c.splat-5.ensures j lt i ∷ c.splat-6.ensures j lt i ∷ c.splat-7.ensures j lt i ∷ c.splat-8.ensures j lt i ∷ []);
-  ended = λ j lt none. absurd (omega (arith, c.requires.some j lt));
+  ended = λ j lt some none. absurd (omega arith);
 }
 
 pub turns-preserved : goal.turns-preserved
@@ -20,20 +20,20 @@ turns-preserved c =
     let size = 64 * c.args.most in
     let bytes = c.args.bytes.now in
     let n = c.turns.n in
-    let next : (j : ℕ) → j < 4 → lane j c.compress.new.state ≡ hash_after initial_hash_256 (bytes_of size j bytes) (n + 1) =
+    let next : (j : ℕ) → j < 8 → lane j c.compress.new.state ≡ hash_after initial_hash_256 (bytes_of size j bytes) (n + 1) =
     λ j lt.
     c.compress.ensures j lt
     ∙ (λ i. compress (c.turns.invariant.states j lt i) (block_within bytes (j * size) size n (omega arith) i))
     ∙ sym (hash_after_next initial_hash_256 (bytes_of size j bytes) n) in
     record {
       states = next;
-      ended = λ j lt within.
+      ended = λ j lt some within.
           ended_next (slice_index c.args.counts j) n
           (λ (k : ℕ). digest_bytes (hash_after initial_hash_256 (bytes_of size j bytes) k) 8)
           _ _ _ (c.note_ends.ensures j lt) (ap (λ (h : List ℕ). digest_bytes h 8) (next j lt))
-          (c.turns.invariant.ended j lt) within;
+          (c.turns.invariant.ended j lt some) within;
     }
 
 pub returns : goal.returns
-returns c = λ j lt.
-    c.turns.invariant.ended j lt (omega (arith, c.requires.counts j lt))
+returns c = λ j lt some.
+    c.turns.invariant.ended j lt some (omega (arith, c.requires.counts j lt))

@@ -6,7 +6,7 @@ use Rattle.qq_digests.proofs.group.note_ends.Given as goal
 
 abbrev pub invariant-messages : goal.invariant-messages
 invariant-messages l = record {
-  long : length l.found ≡ 4;
+  long : length l.found ≡ 8;
   noted : (k : ℕ) → k < l.j → slice_index_or l.found k []
       ≡ (if slice_index l.counts k == l.count then digest_bytes (lane k l.state) 8 else slice_index_or l.initial.found k []);
   left : (k : ℕ) → l.j ≤ k → slice_index_or l.found k [] ≡ slice_index_or l.initial.found k [];

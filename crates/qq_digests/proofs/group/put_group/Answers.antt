@@ -1,30 +1,29 @@
-use Rattle.std.proofs.Common.{rules, ◌≡◌, ℕ, ◌*◌, ◌<◌, ◌≤◌, List, [], ◌∷◌, length, map, get_or, slice_index, refl, sym, ap, ◌∙◌, arith}
-use Rattle.std.proofs.lemmas.List.{get_or-map, length-map}
-use Rattle.sha2.specs.Sha256.{digest_bytes, hash_after, initial_hash_256, padded_message, sha256}
-use Rattle.qq_digests.specs.Lanes.{bytes_of, filled, with_prefix}
-use Rattle.qq_digests.proofs.Blocks.{length-filled, places, sha256_of_filled}
-use Rattle.qq_digests.proofs.Four.{below_four, same_four}
+use Rattle.std.proofs.Common.{◌≡◌, ℕ, ◌*◌, ◌<◌, List, [], ◌++◌, length, map, take, get_or, slice_index, sym, ap, subst, ◌∙◌, arith}
+use Rattle.std.proofs.lemmas.List.{get_or-map, length-map, take_at}
+use Rattle.qq_base.specs.Fronts.{IsFront}
+use Rattle.sha2.specs.Sha256.{padded_message, sha256}
+use Rattle.qq_digests.specs.Lanes.{bytes_of, with_prefix}
+use Rattle.qq_digests.proofs.Blocks.{length-padded, same_front, sha256_of_front}
 use Rattle.qq_digests.proofs.group.put_group.Goals as goal
 
 pub returns-clause-ok : goal.returns-clause-ok
 returns-clause-ok c =
-    let w = with_prefix c.args.prefix.now c.args.messages.now in
-    let long : length w ≡ 4 = length-map c.args.messages.now _ ∙ c.requires.messages in
+    let ms = c.args.messages.now in
+    let w = with_prefix c.args.prefix.now ms in
+    let long : length w ≡ length ms = length-map ms _ in
     let size : ℕ = 64 * c.args.most in
     let bytes = c.as_slice.result.now in
-    let fits : (j : ℕ) → j < 4 → length (padded_message (get_or w j [])) ≤ size =
-    λ j lt. omega (arith, c.requires.counts j lt, c.requires.most j lt) in
-    let is : (j : ℕ) → j < 4 → length (filled size (get_or w j [])) ≡ size = λ j lt. length-filled size (get_or w j []) (fits j lt) in
-    let at : (j : ℕ) → j < 4 → bytes_of size j bytes ≡ filled size (get_or w j []) =
-    λ j lt. places size (filled size (get_or w 0 [])) (filled size (get_or w 1 [])) (filled size (get_or w 2 []))
-    (filled size (get_or w 3 [])) bytes (c.as_slice.ensures.value ∙ c.in_ok-fill.ensures.ok)
-    (is 0 (omega arith)) (is 1 (omega arith)) (is 2 (omega arith)) (is 3 (omega arith)) j lt
-    ∙ below_four (λ (k : ℕ). get_or (filled size (get_or w 0 []) ∷ filled size (get_or w 1 []) ∷ filled size (get_or w 2 [])
-    ∷ filled size (get_or w 3 []) ∷ []) k [] ≡ filled size (get_or w k [])) refl refl refl refl j lt in
-    let same : c.hash_blocks-found.result ≡ map sha256 w =
-    same_four [] c.hash_blocks-found.result (map sha256 w) (omega arith) (length-map w sha256 ∙ long)
-    (λ j lt. c.hash_blocks-found.ensures j lt
-    ∙ ap (λ (l : List ℕ). digest_bytes (hash_after initial_hash_256 l (slice_index c.args.counts j)) 8) (at j lt)
-    ∙ sha256_of_filled size (slice_index c.args.counts j) (get_or w j []) (c.requires.counts j lt)
-    ∙ sym (get_or-map sha256 w j [] [] (omega arith))) in
-    rw (← same) (search rules)
+    let found = c.hash_blocks-found.result in
+    let is : bytes ≡ c.fill.new.bytes =
+    c.as_slice.ensures.value ∙ take_at c.fill.new.bytes _ _ (omega (arith, c.as_mut_slice.ensures.len)) in
+    let each : (j : ℕ) → j < length ms → get_or found j [] ≡ get_or (map sha256 w) j [] = λ j lt.
+    let m : List ℕ = get_or w j [] in
+    let blocks : length (padded_message m) ≡ 64 * slice_index c.args.counts j = c.requires.counts j lt in
+    let some : 0 < slice_index c.args.counts j = omega (arith, length-padded m) in
+    c.hash_blocks-found.ensures j (omega arith) some
+    ∙ sha256_of_front (slice_index c.args.counts j) m (bytes_of size j bytes) blocks
+    (subst (λ (l : List ℕ). IsFront (padded_message m) (bytes_of size j l)) (sym is) (c.fill.ensures j lt))
+    ∙ sym (get_or-map sha256 w j [] [] (omega arith)) in
+    let same : take (length ms) found ≡ map sha256 w =
+    same_front [] (length ms) found (map sha256 w) (length-map w sha256 ∙ long) (omega arith) each in
+    c.in_ok-extend_from_slice.ensures.items ∙ ap (λ (l : List (List ℕ)). c.args.out.now.items ++ l) same

@@ -6,5 +6,5 @@ use Rattle.qq_digests.proofs.rounds.load.Given as goal
 abbrev pub invariant-load : goal.invariant-load
 invariant-load l = record {
   long : length l.words ≡ 16;
-  words : (j k : ℕ) → j < 4 → k < l.i → slice_index (words_of j l.words) k ≡ word_at l.bytes (j * l.size + (l.at + 4 * k));
+  words : (j k : ℕ) → j < 8 → k < l.i → slice_index (words_of j l.words) k ≡ word_at l.bytes (j * l.size + (l.at + 4 * k));
 }

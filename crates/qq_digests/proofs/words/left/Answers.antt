@@ -1,11 +1,11 @@
 use Rattle.std.proofs.Common.{◌≡◌, ℕ, ◌*◌, ◌%◌, ◌^◌, ◌<◌, List, [], ◌∷◌, slice_index, refl}
 use Rattle.std.specs.Simd.Lanes.{zip2}
-use Rattle.qq_digests.proofs.Four.{below_four, four_items}
+use Rattle.qq_digests.proofs.Eight.{below_eight, eight_items}
 use Rattle.qq_digests.proofs.words.left.Goals as goal
 
 pub returns : goal.returns
 returns c =
     let k : ℕ = c.args.by in
-    four_items (λ (v : List ℕ). (j : ℕ) → j < 4
-    → slice_index (zip2 (λ x n. x * 2 ^ n % 2 ^ 32) v (k ∷ k ∷ k ∷ k ∷ [])) j ≡ slice_index v j * 2 ^ k % 2 ^ 32)
-    (λ a b c d. below_four _ refl refl refl refl) c.args.x c.fits-x.0
+    eight_items (λ (v : List ℕ). (j : ℕ) → j < 8
+    → slice_index (zip2 (λ x n. x * 2 ^ n % 2 ^ 32) v (k ∷ k ∷ k ∷ k ∷ k ∷ k ∷ k ∷ k ∷ [])) j ≡ slice_index v j * 2 ^ k % 2 ^ 32)
+    (λ a b c d e f g h. below_eight _ refl refl refl refl refl refl refl refl) c.args.x c.fits-x.0
