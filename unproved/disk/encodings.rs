@@ -7,8 +7,8 @@ use qq_base::{Index, NodeId, QueueId, Term};
 use qq_command::{Entries, decode};
 use qq_log::{Carry, Op, Places, SnapshotHead, Span};
 use qq_wal_record::{
-    Header, LogRecord, NoHeader, NoRecord, put_body, read_header, read_record, write_carry,
-    write_header, write_marked,
+    Header, LogRecord, MarkRoom, NoHeader, NoRecord, put_op_body, read_header, read_record,
+    write_carry, write_header, write_marked,
 };
 use std::alloc::Global;
 
@@ -79,14 +79,15 @@ fn stand_for(alloc: Global, file: u64, digits: &str, wanted: LogRecord) -> Resul
 /// A record's bytes as the log writes them: a carry by itself, an op in a batch, which is of one record here.
 fn written(alloc: Global, file: u64, record: &LogRecord) -> Result<Vec<u8>> {
     let mut out = Vec::new(alloc);
-    if let LogRecord::Carry(carry) = record {
-        write_carry(file, carry, &mut out)?;
-        return Ok(out);
+    match record {
+        LogRecord::Carry(carry) => write_carry(file, carry, &mut out)?,
+        LogRecord::Op(op) => {
+            let mut body = Vec::new(alloc);
+            put_op_body(&mut body, op)?;
+            let length = body.len();
+            write_marked(&mut out, &mut MarkRoom::new(alloc), file, &body, &[length])?;
+        }
     }
-    let mut body = Vec::new(alloc);
-    put_body(&mut body, record)?;
-    let length = body.len();
-    write_marked(&mut out, alloc, file, &body, &[length])?;
     Ok(out)
 }
 

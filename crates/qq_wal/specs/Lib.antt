@@ -8,4 +8,5 @@ pub mod Ranges
 pub mod Running
 pub mod Spans
 pub mod Sweep
+pub mod Waiting
 pub mod Wal

@@ -9,11 +9,12 @@ ghost use Rattle.qq_wal_record.specs.Marked.{body_length};
 ghost use Rattle.qq_wal_chain.specs.Wal.{RecordFits};
 ghost use Rattle.qq_wal.specs.Batch.{encodings, AllFitBatch, IsBatch};
 
+use crate::waiting::Waiting;
 use qq_base::Memory;
 use qq_log::Carry;
-use qq_wal_record::{LogRecord, MARK_LEN, put_body, write_carry, write_marked};
+use qq_wal_record::{MARK_LEN, MarkRoom, put_op_body, write_carry, write_marked};
 use std::alloc::Global;
-use std::collections::VecDeque;
+use std::marker::Model;
 
 /// The most ops of a batch.
 pub const BATCH_OPS: usize = 8_192;
@@ -39,12 +40,44 @@ pub(crate) fn put_carry_record(file: u64, carry: &Carry, out: &mut Vec<u8>) -> R
     Ok(())
 }
 
+/// Room to put batches together in. What stands in it is of no use to a later batch: it is kept for its memory, so
+/// that once it has grown, a batch takes none. It stays as large as the largest batch made it: each list of bytes
+/// may have `BATCH_BYTES`.
+#[derive(Drop)]
+pub(crate) struct BatchRoom {
+    /// The records before their marks.
+    bodies: Vec<u8>,
+    /// How many bytes each of them has.
+    lengths: Vec<usize>,
+    marks: MarkRoom,
+    /// The records.
+    bytes: Vec<u8>,
+}
+
+impl Model for BatchRoom {
+    ghost Value = { Unit {0} };
+
+    ghost view = { λ _. tt };
+}
+
+impl BatchRoom {
+    /// Room that takes no memory yet.
+    pub(crate) fn new(alloc: Global) -> BatchRoom {
+        BatchRoom {
+            bodies: Vec::new(alloc),
+            lengths: Vec::new(alloc),
+            marks: MarkRoom::new(alloc),
+            bytes: Vec::new(alloc),
+        }
+    }
+}
+
 /// Adds the bytes of a batch of what waits, each record's before its mark, with how many they are, and answers
 /// of how many records it is.
 fn put_bodies(
     bytes: &mut Vec<u8>,
     lengths: &mut Vec<usize>,
-    waiting: &VecDeque<LogRecord>,
+    waiting: &Waiting,
 ) -> Result<usize, Memory>
     requires fit { AllFitBatch waiting.now.items }
     requires bytes { bytes.old.items ≡ [] }
@@ -59,7 +92,7 @@ fn put_bodies(
     let mut count = 0;
     while count < waiting.len() && count < BATCH_OPS {
         let place = bytes.len();
-        put_body(bytes, &waiting[count])?;
+        put_op_body(bytes, waiting.op_at(count))?;
         if bytes.len() + MARK_LEN * (count + 1) > BATCH_BYTES {
             bytes.truncate(place);
             return Ok(count);
@@ -70,26 +103,28 @@ fn put_bodies(
     Ok(count)
 }
 
-/// Adds a batch of what waits, and answers of how many records it is.
-pub(crate) fn put_batch(
-    alloc: Global,
+/// Puts together a batch of what waits, and answers of how many records it is, and its bytes.
+pub(crate) fn put_batch<'a>(
+    room: &'a mut BatchRoom,
     file: u64,
-    waiting: &VecDeque<LogRecord>,
-    out: &mut Vec<u8>,
-) -> Result<usize, Memory>
-    requires fit { AllFitBatch waiting.now.items }
-    requires empty { out.old.items ≡ [] }
-    ensures batch { IfOk result (λ count. IsBatch file count waiting.now.items) }
+    waiting: &Waiting,
+) -> Result<(usize, &'a [u8]), Memory>
+    requires { AllFitBatch waiting.now.items }
+    ensures batch { IfOk result (λ batch. IsBatch file batch.0 waiting.now.items) }
     ensures ok { IfOk result
-        (λ count. out.new.items ≡ encodings file (take count waiting.now.items)) }
-    ensures fits { IfOk result (λ count.
-        AllByRecursion (RecordFits file) (take count waiting.now.items)) }
+        (λ batch. batch.1.now ≡ encodings file (take batch.0 waiting.now.items)) }
+    ensures fits { IfOk result (λ batch.
+        AllByRecursion (RecordFits file) (take batch.0 waiting.now.items)) }
     ensures want { IsOkUnless result Memory.Want }
 {
-    let mut bytes = Vec::new(alloc);
-    let mut lengths = Vec::new(alloc);
-    let count = put_bodies(&mut bytes, &mut lengths, waiting)?;
-    write_marked(out, alloc, file, bytes.as_slice(), lengths.as_slice())?;
-    are_bytes(out.as_slice());
-    Ok(count)
+    room.bodies.clear();
+    room.lengths.clear();
+    room.bytes.clear();
+    let count = put_bodies(&mut room.bodies, &mut room.lengths, waiting)?;
+    let bodies = room.bodies.as_slice();
+    let lengths = room.lengths.as_slice();
+    write_marked(&mut room.bytes, &mut room.marks, file, bodies, lengths)?;
+    let bytes = room.bytes.as_slice();
+    are_bytes(bytes);
+    Ok((count, bytes))
 }

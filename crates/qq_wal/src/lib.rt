@@ -19,6 +19,7 @@ mod roll;
 mod sweep;
 mod synced;
 mod table;
+mod waiting;
 mod wal;
 
 pub use batch::{BATCH_BYTES, BATCH_OPS};

@@ -7,11 +7,10 @@ ghost use Rattle.qq_wal.specs.Notices.{change_at, note_record, op_term, last_ind
 
 use crate::marks::{Mark, add_op, place_of};
 use crate::table::Marks;
+use crate::waiting::Waiting;
 use qq_base::{Index, Memory, QueueId, Term};
 use qq_log::Op;
-use qq_wal_record::LogRecord;
 use std::alloc::Global;
-use std::collections::VecDeque;
 
 /// What a queue is told once its ops are synced.
 #[derive(Clone, Copy, Debug, PartialEq, Eq)]
@@ -176,20 +175,15 @@ pub(crate) fn sync_within(marks: &mut [Mark], first: usize, end: usize)
     }
 }
 
-/// Takes the first records, and notes their ops.
-pub(crate) fn take_batch(
-    alloc: Global,
-    waiting: &mut VecDeque<LogRecord>,
-    marks: &mut Marks,
-    count: usize,
-)
+/// Takes the first ops, and notes them.
+pub(crate) fn take_batch(alloc: Global, waiting: &mut Waiting, marks: &mut Marks, count: usize)
     requires fit { AllFitBatch waiting.old.items }
     requires count { count ≤ length waiting.old.items }
     ensures waiting { waiting.new.items ≡ drop count waiting.old.items }
     ensures marks { marks.new ≡ fold note_record marks.old (take count waiting.old.items) }
 {
     for _ in 0..count {
-        if let Some(LogRecord::Op(op)) = waiting.pop_front() {
+        if let Some(op) = waiting.pop() {
             marks.note(alloc, &op);
         }
     }

@@ -9,11 +9,11 @@ ghost use Rattle.qq_wal.specs.Ranges.{new_ranges, write, begin_file, enter_file,
 ghost use Rattle.qq_wal.specs.Spans.{range_to, first_or, range_behind, span_to, spans_to, span_of, least_kept, find_file};
 
 use crate::older::{Older, Range, span_to};
+use crate::waiting::Waiting;
 use qq_base::{Index, Memory, QueueId};
 use qq_log::{Op, Span};
-use qq_wal_record::LogRecord;
 use std::alloc::Global;
-use std::collections::{BTreeMap, VecDeque};
+use std::collections::BTreeMap;
 
 /// Which of a queue's entries lie in which log file.
 #[derive(Drop)]
@@ -319,17 +319,15 @@ impl FileRanges {
         }
     }
 
-    /// The first records that wait are written.
-    pub(crate) fn write_batch(&mut self, waiting: &VecDeque<LogRecord>, count: usize)
+    /// The first ops that wait are written.
+    pub(crate) fn write_batch(&mut self, waiting: &Waiting, count: usize)
         requires fit { AllFitBatch waiting.now.items }
         requires count { count ≤ length waiting.now.items }
         ensures { ranges_in self.new
             ≡ fold write_record (ranges_in self.old) (take count waiting.now.items) }
     {
         for i in 0..count {
-            if let LogRecord::Op(op) = &waiting[i] {
-                self.write_op(op);
-            }
+            self.write_op(waiting.op_at(i));
         }
     }
 

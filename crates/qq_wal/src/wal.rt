@@ -20,7 +20,7 @@ ghost use Rattle.qq_wal.specs.Ranges.{ranges_in};
 ghost use Rattle.qq_wal.specs.Running.{MayBegin, Stays, StaysBeside, StaysGiving, StillMayRecover, HoldsAlso, StillHolds, MayNotice, numbers_behind, numbers_read};
 ghost use Rattle.qq_wal.specs.Wal.{IsSound, IsBegun, carries_ahead, disk_of, SameFile, Appends, StaysAppending};
 
-use crate::batch::{BATCH_BYTES, put_batch};
+use crate::batch::{BATCH_BYTES, BatchRoom, put_batch};
 use crate::begin::first_bytes;
 use crate::fault::{WalFault, fault_of, is_failure};
 use crate::file::{append_file, begin_file, sync_file};
@@ -29,13 +29,13 @@ use crate::notices::{Notice, take_batch};
 use crate::numbers::{Numbers, first_numbers};
 use crate::ranges::FileRanges;
 use crate::table::Marks;
+use crate::waiting::Waiting;
 use qq_base::{Memory, QueueId};
 use qq_disk::{FileName, NodeDisk};
 use qq_log::{Carry, Op, carries_restate};
 use qq_wal_chain::the_log_has_a_format;
-use qq_wal_record::{Header, LogRecord};
+use qq_wal_record::Header;
 use std::alloc::Global;
-use std::collections::VecDeque;
 
 /// A node's shared log, which is written to. It owns the disk.
 #[derive(Drop)]
@@ -54,7 +54,9 @@ pub struct Wal<D: NodeDisk> {
     /// The greatest numbers of files.
     pub(crate) numbers: Numbers,
     /// What was gathered and isn't appended yet.
-    pub(crate) waiting: VecDeque<LogRecord>,
+    pub(crate) waiting: Waiting,
+    /// Where batches are put together.
+    pub(crate) room: BatchRoom,
     /// What is kept of each queue, in the same order.
     pub(crate) marks: Marks,
     /// Where the queues' entries lie.
@@ -134,7 +136,8 @@ impl<D: NodeDisk> Wal<D> {
             first: size,
             log_bytes,
             numbers: first_numbers(header, names),
-            waiting: VecDeque::new(alloc),
+            waiting: Waiting::new(alloc),
+            room: BatchRoom::new(alloc),
             marks,
             ranges,
             dirty: false,
@@ -184,10 +187,9 @@ impl<D: NodeDisk> Wal<D> {
         if !is_short(&op) {
             return Err((WalFault::TooLarge, op));
         }
-        if self.waiting.reserve(1).is_err() {
+        if let Err(op) = self.waiting.push(op) {
             return Err((WalFault::Memory(Memory::Want), op));
         }
-        self.waiting.push_back_reserved(LogRecord::Op(op));
         Ok(())
     }
 
@@ -233,9 +235,8 @@ impl<D: NodeDisk> Wal<D> {
         if self.stopped {
             return Err(WalFault::Stopped);
         }
-        let mut bytes = Vec::new(alloc);
-        let count = match put_batch(alloc, self.header.file, &self.waiting, &mut bytes) {
-            Ok(count) => count,
+        let (count, bytes) = match put_batch(&mut self.room, self.header.file, &self.waiting) {
+            Ok(batch) => batch,
             Err(memory) => return Err(WalFault::Memory(memory)),
         };
         if count == 0 {
@@ -244,7 +245,7 @@ impl<D: NodeDisk> Wal<D> {
         if self.size > u64::MAX - BATCH_BYTES as u64 {
             return Err(WalFault::Memory(Memory::Spent { number: self.size }));
         }
-        if let Err(fault) = append_file(&mut self.disk, alloc, self.header, bytes.as_slice()) {
+        if let Err(fault) = append_file(&mut self.disk, alloc, self.header, bytes) {
             self.stopped = is_failure(fault);
             return Err(fault_of(fault));
         }

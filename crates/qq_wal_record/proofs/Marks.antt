@@ -1,17 +1,17 @@
 -- Records put together from their bodies and marks.
-use Rattle.std.proofs.Common.{◌≡◌, ℕ, ◌+◌, ◌*◌, ◌<◌, get_or, append_assoc, List, [], ◌∷◌, ◌++◌, length, map, take, drop, refl, sym, ap, ◌∙◌, arith}
+use Rattle.std.proofs.Common.{◌≡◌, ℕ, ◌+◌, ◌*◌, List, [], ◌∷◌, ◌++◌, length, map, take, drop, refl, ap, ◌∙◌, arith}
 use Rattle.std.specs.List.{flat_map, sum}
-use Rattle.std.proofs.lemmas.List.{append-nil, at_drop_more, get_or-map, length-append, length-map, take_at, take_more, drop_at}
-use Rattle.std.proofs.lemmas.Grind.{flat_map-append}
+use Rattle.std.proofs.lemmas.List.{length-append, take_at, drop_at}
 use Rattle.std.proofs.lemmas.List.Sums.{sum_by-cons}
 use Rattle.std.specs.Borrow.{Bor}
 use Rattle.sha2.specs.Sha256.{sha256}
 use Rattle.qq_digests.specs.Lanes.{with_prefix}
+use Rattle.qq_digests.specs.Pieces.{pieces}
 use Rattle.qq_fields.specs.Writing.{u64}
 use Rattle.qq_wal_record.specs.declared.record.LogRecord.{LogRecord}
 use Rattle.qq_wal_record.specs.Encoding.{body, record_encoding, record_mark}
 use Rattle.qq_wal_record.specs.Mark.{mark}
-use Rattle.qq_wal_record.specs.Marked.{body_length, marked, pieces}
+use Rattle.qq_wal_record.specs.Marked.{body_length, marked, with_fronts}
 use Rattle.qq_wal_record.proofs.Lengths.{record_mark_len}
 
 -- the pieces of the records' lengths are their bodies
@@ -64,36 +64,13 @@ unfolding record_mark mark
 marks_of file [] = refl
 marks_of file (b ∷ bs) = ap (λ (l : List (List ℕ)). record_mark file b.now ∷ l) (marks_of file bs)
 
--- one piece more
-pub pieces_more : (found : List (List ℕ)) (ns rest : List ℕ) (i : ℕ) → i < length ns
-    → found ++ pieces (drop i ns) rest
-    ≡ (found ++ take (get_or ns i 0) rest ∷ []) ++ pieces (drop (i + 1) ns) (drop (get_or ns i 0) rest)
-pieces_more found ns rest i within =
-    at_drop_more (λ (ms : List ℕ). found ++ pieces ms rest) ns i 0 within
-    ∙ sym (append_assoc found (take (get_or ns i 0) rest ∷ []) (pieces (drop (i + 1) ns) (drop (get_or ns i 0) rest)))
+-- digests' first bytes are the marks
+pub fronts_are : (file : ℕ) (ps : List (List ℕ))
+    → with_fronts ps (map (λ (p : List ℕ). sha256 (u64 file ++ p)) ps) ≡ flat_map (marked file) ps
+unfolding record_mark mark
+fronts_are file [] = refl
+fronts_are file (p ∷ ps) = ap (λ (l : List ℕ). marked file p ++ l) (fronts_are file ps)
 
--- one body more, and its mark
-pub marked_more : (file : ℕ) (bodies : List (Bor (List ℕ))) (marks : List (List ℕ)) (i : ℕ) (out old : List ℕ)
-    (b : Bor (List ℕ)) (m : List ℕ) → i < length bodies → marks ≡ map (λ (x : Bor (List ℕ)). record_mark file x.now) bodies
-    → b ≡ get_or bodies i b → m ≡ get_or marks i m
-    → out ≡ old ++ flat_map (marked file) (take i (map (λ (x : Bor (List ℕ)). x.now) bodies))
-    → (out ++ b.now) ++ m ≡ old ++ flat_map (marked file) (take (i + 1) (map (λ (x : Bor (List ℕ)). x.now) bodies))
-marked_more file bodies marks i out old b m within em eb emark eout =
-    let xs : List (List ℕ) = map (λ (x : Bor (List ℕ)). x.now) bodies in
-    let long : length xs ≡ length bodies = length-map bodies (λ (x : Bor (List ℕ)). x.now) in
-    let here : get_or xs i [] ≡ b.now =
-    get_or-map (λ (x : Bor (List ℕ)). x.now) bodies i b [] within ∙ ap (λ (x : Bor (List ℕ)). x.now) (sym eb) in
-    let mark_is : m ≡ record_mark file b.now =
-    emark ∙ ap (λ (l : List (List ℕ)). get_or l i m) em
-    ∙ get_or-map (λ (x : Bor (List ℕ)). record_mark file x.now) bodies i b m within
-    ∙ ap (λ (x : Bor (List ℕ)). record_mark file x.now) (sym eb) in
-    let before : List ℕ = flat_map (marked file) (take i xs) in
-    let next : flat_map (marked file) (take (i + 1) xs) ≡ before ++ marked file b.now =
-    ap (flat_map (marked file)) (take_more xs i [] (omega arith) ∙ ap (λ (x : List ℕ). take i xs ++ x ∷ []) here)
-    ∙ flat_map-append (marked file) (take i xs) (b.now ∷ [])
-    ∙ ap (λ (l : List ℕ). before ++ l) (append-nil (marked file b.now)) in
-    append_assoc out b.now m
-    ∙ ap (λ (l : List ℕ). out ++ (b.now ++ l)) mark_is
-    ∙ ap (λ (l : List ℕ). l ++ marked file b.now) eout
-    ∙ append_assoc old before (marked file b.now)
-    ∙ ap (λ (l : List ℕ). old ++ l) (sym next)
+pub pieces_len : (ns bytes : List ℕ) → length (pieces ns bytes) ≡ length ns
+pieces_len [] bytes = refl
+pieces_len (n ∷ ns) bytes = omega (arith, pieces_len ns (drop n bytes))

@@ -1,12 +1,13 @@
 -- Records whose marks are made at once, from the bytes before their marks.
-use Rattle.std.specs.Prelude.{ℕ, List, [], ◌∷◌, ◌++◌, length, take, drop}
+use Rattle.std.specs.Prelude.{ℕ, List, [], ◌∷◌, ◌++◌, length, take}
 use Rattle.qq_wal_record.specs.declared.record.LogRecord.{LogRecord}
 use Rattle.qq_wal_record.specs.Encoding.{body, record_mark}
 
--- the pieces of bytes, one after the other, of these lengths
-abbrev pub pieces : List ℕ → List ℕ → List (List ℕ)
-pieces [] bytes = []
-pieces (n ∷ ns) bytes = take n bytes ∷ pieces ns (drop n bytes)
+-- pieces, each with the first bytes of its digest
+abbrev pub with_fronts : List (List ℕ) → List (List ℕ) → List ℕ
+with_fronts [] digests = []
+with_fronts (p ∷ ps) [] = []
+with_fronts (p ∷ ps) (d ∷ ds) = (p ++ take 8 d) ++ with_fronts ps ds
 
 -- bytes with their mark
 abbrev pub marked : ℕ → List ℕ → List ℕ

@@ -18,7 +18,7 @@ pub use laws::{
     encodings_have_lengths, headers_read_back, no_record_begins_another, records_read_back,
 };
 pub use mark::MARK_LEN;
-pub use marking::write_marked;
+pub use marking::{MarkRoom, write_marked};
 pub use reading::{read_record, read_record_with};
 pub use record::{LogRecord, NoRecord};
-pub use writing::{put_body, write_carry};
+pub use writing::{put_op_body, write_carry};

@@ -11,7 +11,7 @@ use std::alloc::Global;
 /// The bytes of a mark.
 pub const MARK_LEN: usize = 8;
 
-fn first_bytes(digest: [u8; 32]) -> [u8; 8]
+pub fn first_bytes(digest: [u8; 32]) -> [u8; 8]
     ensures { result ≡ take 8 digest }
 {
     [

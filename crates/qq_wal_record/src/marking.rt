@@ -1,48 +1,60 @@
 //! Records whose marks are made at once.
-ghost use Rattle.std.specs.Prelude.{◌≡◌, ◌++◌, ◌≤◌, List, IfOk, IsOkUnless, OnOk, flat_map, length, map, sum};
+ghost use Rattle.std.specs.Prelude.{◌≡◌, ◌++◌, ◌≤◌, List, OnOk, IsOkUnless, flat_map, length, map, sum};
+ghost use Rattle.qq_digests.specs.Pieces.{pieces};
 ghost use Rattle.qq_wal_record.specs.declared.record.LogRecord.{LogRecord};
 ghost use Rattle.qq_wal_record.specs.Encoding.{body, record_encoding};
-ghost use Rattle.qq_wal_record.specs.Marked.{body_length, marked, pieces};
+ghost use Rattle.qq_wal_record.specs.Marked.{body_length, with_fronts};
 
-use crate::mark::record_marks;
+use crate::mark::first_bytes;
 use qq_base::Memory;
+use qq_digests::put_digests;
 use std::alloc::Global;
+use std::marker::Model;
 
-/// The pieces of bytes, one after the other, of these lengths.
-fn pieces<'a>(alloc: Global, bytes: &'a [u8], lengths: &[usize]) -> Result<Vec<&'a [u8]>, Memory>
-    requires { sum lengths.now ≤ length bytes.now }
-    ensures ok { IfOk result
-        (λ found. map (λ piece. piece.now) found.items ≡ pieces lengths.now bytes.now) }
-    ensures want { IsOkUnless result Memory.Want }
-{
-    let mut found = Vec::new(alloc);
-    let mut rest = bytes;
-    'pieces: for length in lengths {
-        let (piece, more) = rest.split_at(*length);
-        found.push(piece)?;
-        rest = more;
-    }
-    Ok(found)
+/// Room to make marks in. What stands in it is of no use to a later call: it is kept for its memory, so that once
+/// it has grown, no further call takes any. It grows with the most bytes and records of one call.
+#[derive(Drop)]
+pub struct MarkRoom {
+    digests: Vec<[u8; 32]>,
+    /// Where `put_digests` makes copies.
+    copies: Vec<u8>,
 }
 
-/// Adds the pieces of these lengths, each with its mark.
-fn put_marked(
+impl Model for MarkRoom {
+    ghost Value = { Unit {0} };
+
+    ghost view = { λ _. tt };
+}
+
+impl MarkRoom {
+    /// Room that takes no memory yet.
+    pub fn new(alloc: Global) -> MarkRoom {
+        MarkRoom {
+            digests: Vec::new(alloc),
+            copies: Vec::new(alloc),
+        }
+    }
+}
+
+/// Adds the pieces of these lengths, each with the first bytes of its digest.
+fn put_pieces(
     out: &mut Vec<u8>,
-    alloc: Global,
-    file: u64,
     bytes: &[u8],
     lengths: &[usize],
+    digests: &[[u8; 32]],
 ) -> Result<(), Memory>
-    requires { sum lengths.now ≤ length bytes.now }
-    ensures ok { OnOk result
-        (out.new.items ≡ out.old.items ++ flat_map (marked file) (pieces lengths.now bytes.now)) }
+    requires room { sum lengths.now ≤ length bytes.now }
+    requires count { length digests.now ≡ length lengths.now }
+    ensures ok { OnOk result (out.new.items
+        ≡ out.old.items ++ with_fronts (pieces lengths.now bytes.now) digests.now) }
     ensures want { IsOkUnless result Memory.Want }
 {
-    let bodies = pieces(alloc, bytes, lengths)?;
-    let marks = record_marks(alloc, file, bodies.as_slice())?;
-    'bodies: for i in 0..bodies.len() {
-        out.extend_from_slice(bodies[i])?;
-        out.extend_from_slice(&marks[i])?;
+    let mut rest = bytes;
+    'pieces: for i in 0..lengths.len() {
+        let (piece, more) = rest.split_at(lengths[i]);
+        out.extend_from_slice(piece)?;
+        out.extend_from_slice(&first_bytes(digests[i]))?;
+        rest = more;
     }
     Ok(())
 }
@@ -51,7 +63,7 @@ fn put_marked(
 /// with these lengths. The only error is that there is no memory; what was added then isn't said.
 pub fn write_marked(
     out: &mut Vec<u8>,
-    alloc: Global,
+    room: &mut MarkRoom,
     file: u64,
     bytes: &[u8],
     lengths: &[usize],
@@ -62,6 +74,9 @@ pub fn write_marked(
         out.new.items ≡ out.old.items ++ flat_map (record_encoding file) records) }
     ensures want { IsOkUnless result Memory.Want }
 {
-    put_marked(out, alloc, file, bytes, lengths)?;
+    room.digests.clear();
+    let prefix = file.to_be_bytes();
+    put_digests(&mut room.digests, &mut room.copies, &prefix, bytes, lengths)?;
+    put_pieces(out, bytes, lengths, room.digests.as_slice())?;
     Ok(())
 }

@@ -1,5 +1,6 @@
 ghost use Rattle.std.specs.Prelude.{◌≡◌};
 ghost use Rattle.qq_wal_record.specs.Record.{kind, queue, number};
+ghost use Rattle.qq_wal_record.specs.declared.record.LogRecord.TheVariants.{Op as OpRecord};
 
 use qq_base::QueueId;
 use qq_fields::Fault;
@@ -60,15 +61,24 @@ impl Fault for NoRecord {
     }
 }
 
+/// Which kind of record an op's is.
+pub fn op_kind(op: &Op) -> u8
+    ensures { result ≡ kind (OpRecord op.now) }
+{
+    match op {
+        Op::Change { .. } => CHANGE,
+        Op::SnapshotMade { .. } => SNAPSHOT,
+        Op::SegmentMade { .. } => SEGMENT,
+    }
+}
+
 impl LogRecord {
     /// Which kind of record it is.
     pub fn kind(&self) -> u8
         ensures { result ≡ kind self.now }
     {
         match self {
-            LogRecord::Op(Op::Change { .. }) => CHANGE,
-            LogRecord::Op(Op::SnapshotMade { .. }) => SNAPSHOT,
-            LogRecord::Op(Op::SegmentMade { .. }) => SEGMENT,
+            LogRecord::Op(op) => op_kind(op),
             LogRecord::Carry(_) => CARRY,
         }
     }

@@ -5,12 +5,11 @@ ghost use Rattle.qq_fields.specs.Writing.{u64};
 ghost use Rattle.qq_entry.specs.Range.{IsWritable as IsEntry};
 ghost use Rattle.qq_command.specs.Encoding.{entries};
 ghost use Rattle.qq_log.specs.Writable.{IsSegment, IsWritable as IsWritableOp, IsWritableCarry};
-ghost use Rattle.qq_wal_record.specs.Encoding.{vote, head, segment, segments, change_payload, op_payload, carry_payload, payload, inside, body, record_encoding};
-ghost use Rattle.qq_wal_record.specs.Record.{IsWritable};
-ghost use Rattle.qq_wal_record.specs.declared.record.LogRecord.TheVariants.{Carry as CarryRecord};
+ghost use Rattle.qq_wal_record.specs.Encoding.{vote, head, segment, segments, change_payload, op_payload, carry_payload, inside, body, record_encoding};
+ghost use Rattle.qq_wal_record.specs.declared.record.LogRecord.TheVariants.{Op as OpRecord, Carry as CarryRecord};
 
 use crate::mark::record_mark;
-use crate::record::{CARRY, HEAD_LEN, LogRecord, NoRecord};
+use crate::record::{CARRY, HEAD_LEN, NoRecord, op_kind};
 use qq_base::{Index, Memory, NodeId, Term, put_u8, put_u32, put_u64};
 use qq_command::{Entry, put_entries};
 use qq_fields::{put_list, set_length};
@@ -139,44 +138,32 @@ fn put_carry(out: &mut Vec<u8>, carry: &Carry) -> Result<(), Memory>
     put_u64(out, carry.last.0)
 }
 
-fn put_payload(out: &mut Vec<u8>, r: &LogRecord) -> Result<(), Memory>
-    requires { IsWritable r.now }
-    ensures ok { OnOk result (out.new.items ≡ out.old.items ++ payload r.now) }
-    ensures err { OnErr result (IsPrefix out.old.items out.new.items) }
-    ensures want { IsOkUnless result Memory.Want }
-{
-    match r {
-        LogRecord::Op(op) => put_op(out, op),
-        LogRecord::Carry(carry) => put_carry(out, carry),
-    }
-}
-
-/// What follows a payload's length.
+/// What follows the length of an op's payload.
 #[tactic(auto, using(qq_fields::proofs::Appends::prefix_rules), unfolding(crate::specs::Encoding::inside))]
-fn put_inside(out: &mut Vec<u8>, r: &LogRecord) -> Result<(), Memory>
-    requires { IsWritable r.now }
-    ensures ok { OnOk result (out.new.items ≡ out.old.items ++ inside r.now) }
+fn put_op_inside(out: &mut Vec<u8>, op: &Op) -> Result<(), Memory>
+    requires { IsWritableOp op.now }
+    ensures ok { OnOk result (out.new.items ≡ out.old.items ++ inside (OpRecord op.now)) }
     ensures err { OnErr result (IsPrefix out.old.items out.new.items) }
     ensures want { IsOkUnless result Memory.Want }
 {
-    put_u8(out, r.kind())?;
-    put_u32(out, r.queue().0)?;
-    put_u64(out, r.number())?;
-    put_payload(out, r)?;
+    put_u8(out, op_kind(op))?;
+    put_u32(out, op.queue().0)?;
+    put_u64(out, op.number())?;
+    put_op(out, op)?;
     Ok(())
 }
 
-/// Adds a record before its mark. Its payload's length is set when its payload stands there.
+/// Adds an op's record before its mark. Its payload's length is set when its payload stands there.
 #[tactic(auto, using(qq_fields::proofs::Appends::prefix_rules), unfolding(crate::specs::Encoding::body))]
-pub fn put_body(out: &mut Vec<u8>, r: &LogRecord) -> Result<(), Memory>
-    requires { IsWritable r.now }
-    ensures ok { OnOk result (out.new.items ≡ out.old.items ++ body r.now) }
+pub fn put_op_body(out: &mut Vec<u8>, op: &Op) -> Result<(), Memory>
+    requires { IsWritableOp op.now }
+    ensures ok { OnOk result (out.new.items ≡ out.old.items ++ body (OpRecord op.now)) }
     ensures err { OnErr result (IsPrefix out.old.items out.new.items) }
     ensures want { IsOkUnless result Memory.Want }
 {
     let place = out.len();
     put_u32(out, 0)?;
-    put_inside(out, r)?;
+    put_op_inside(out, op)?;
     let length = (out.len() - place - HEAD_LEN) as u32;
     set_length(out, place, length);
     Ok(())

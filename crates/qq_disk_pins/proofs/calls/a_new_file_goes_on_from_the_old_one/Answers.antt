@@ -1,15 +1,14 @@
-use Rattle.std.proofs.Common.{Global, List, ℕ, ap, sym, subst, ◌∙◌, leb, length, arith}
+use Rattle.std.proofs.Common.{List, ℕ, ap, sym, subst, ◌∙◌, leb, length, arith}
 use Rattle.std.specs.Prelude.{◌+◌, ◌-◌, ◌*◌}
 use Rattle.std.proofs.lemmas.Bool.{lt-leb}
 use Rattle.qq_wal_record.specs.declared.header.Header.{Header}
 use Rattle.qq_wal.specs.declared.marks.Mark.{Mark}
 use Rattle.qq_wal.specs.declared.numbers.Numbers.{Numbers}
 use Rattle.std.specs.List.{AllByRecursion}
-use Rattle.std.specs.declared.collections.VecDeque.{VecDeque}
-use Rattle.qq_wal_record.specs.declared.record.LogRecord.{LogRecord}
 use Rattle.qq_wal.specs.Marks.{HasCarry, add_records, carries_in, known}
 use Rattle.qq_wal.specs.Notices.{notices_in, synced_in}
 use Rattle.qq_wal.specs.Ranges.{AllRanges, in_file, ranges_in}
+use Rattle.qq_wal.specs.Waiting.{WaitingRecords}
 use Rattle.qq_disk_pins.proofs.Lying.{begun-lies}
 use Rattle.qq_disk_pins.proofs.Sizes.{first-size}
 use Rattle.qq_disk_pins.proofs.calls.a_new_file_goes_on_from_the_old_one.Goals as goal
@@ -47,8 +46,8 @@ returns-clause-fresh g c = λ old new r some.
 
 pub returns-clause-waits : goal.returns-clause-waits
 returns-clause-waits g c = λ old new id r. (
-  ap (λ (w : VecDeque LogRecord Global). w.items) r.waiting,
-  ap (λ (w : VecDeque LogRecord Global). add_records (known new.marks) w.items) r.waiting
+  ap (λ (w : WaitingRecords). w.items) r.waiting,
+  ap (λ (w : WaitingRecords). add_records (known new.marks) w.items) r.waiting
       ∙ ap (λ (l : List Mark). add_records (known l) old.waiting.items) r.marks,
   ap (λ (l : List Mark). synced_in l id) r.marks,
   ap notices_in r.marks,

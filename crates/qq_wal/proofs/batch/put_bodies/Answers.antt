@@ -1,4 +1,5 @@
 use Rattle.std.proofs.Common.{◌+◌, inl, inr, arith}
+use Rattle.qq_wal_record.specs.declared.record.LogRecord.TheVariants.{Op}
 use Rattle.qq_wal.proofs.Bodies.{more_bodies, taken_len}
 use Rattle.qq_wal.proofs.batch.put_bodies.Goals as goal
 
@@ -8,10 +9,10 @@ returns-then-len-count-gt-BATCH_BYTES-clause-batch c = λ file.
     let ws = c.args.waiting.now.items in
     let count = c.loop-count.count in
     let bytes = c.loop-count.bytes.items in
-    let next = c.put_body.new.out.items in
+    let next = c.put_op_body.new.out.items in
     let i = c.loop-count.invariant in
-    let all = more_bodies ws count c.index.result.now bytes next (omega arith) c.index.ensures i.bytes
-    c.in_ok-put_body.ensures.ok in
+    let all = more_bodies ws count (Op c.op_at.result.now) bytes next (omega arith) c.op_at.ensures.lookup i.bytes
+    c.in_ok-put_op_body.ensures.ok in
     record {
       within = i.within;
       ops = i.ops;

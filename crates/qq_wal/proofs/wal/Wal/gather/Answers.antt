@@ -1,6 +1,4 @@
-use Rattle.std.proofs.Common.{ap, ◌∙◌, ◌++◌, ◌∷◌, [], List, rules}
-use Rattle.qq_wal_record.specs.declared.record.LogRecord.{LogRecord}
-use Rattle.qq_wal_record.specs.declared.record.LogRecord.TheVariants.{Op as OpRecord}
+use Rattle.std.proofs.Common.{rules}
 use Rattle.qq_wal.specs.Marks.{known}
 use Rattle.qq_wal.proofs.Taking.{gathered-fit, gathered-follow, gathered-ahead}
 use Rattle.qq_wal.proofs.wal.Wal.gather.Goals as goal
@@ -8,13 +6,12 @@ use Rattle.qq_wal.proofs.wal.Wal.gather.Goals as goal
 pub returns-clause-sound : goal.returns-clause-sound
 returns-clause-sound g c =
     let was = c.args.self.now in
-    let is = c.push_back_reserved.ensures.items
-    ∙ ap (λ (l : List LogRecord). l ++ OpRecord c.args.op ∷ []) c.reserve.ensures.items in
+    let is = c.in_default.ensures.items in
     record {
-      waiting = gathered-fit was.waiting.items c.push_back_reserved.new.self.items c.args.op is
+      waiting = gathered-fit was.waiting.items c.push.new.self.items c.args.op is
           c.requires.takes (search rules) c.requires.sound.waiting;
       follow = gathered-follow was.queues.items (known was.marks) was.waiting.items
-          c.push_back_reserved.new.self.items c.args.op is c.requires.sound.follow c.requires.takes
+          c.push.new.self.items c.args.op is c.requires.sound.follow c.requires.takes
           c.requires.goes_on;
       queues_are = c.requires.sound.queues_are;
       carries = c.requires.sound.carries;
@@ -29,6 +26,5 @@ returns-clause-sound g c =
 pub returns-clause-ahead : goal.returns-clause-ahead
 returns-clause-ahead g c =
     gathered-ahead (known c.args.self.now.marks) c.args.self.now.waiting.items
-    c.push_back_reserved.new.self.items c.args.op
-    (c.push_back_reserved.ensures.items
-    ∙ ap (λ (l : List LogRecord). l ++ OpRecord c.args.op ∷ []) c.reserve.ensures.items)
+    c.push.new.self.items c.args.op
+    c.in_default.ensures.items
