@@ -47,6 +47,24 @@ command_text (DeadSettle term done) =
     codes "dead-settle " ++ decimal term.0 ++ codes " "
     ++ numbers_text (map (λ (d : DeadDone). d.number) done)
 
+-- a command without the ids that it names, and those ids: both are its text
+abbrev pub command_head : Command → List ℕ
+command_head (Settle stamp tag ids) =
+    codes "settle" ++ stamp_text stamp ++ codes " " ++ decimal tag ++ codes " "
+command_head (Return stamp tag ids) =
+    codes "return" ++ stamp_text stamp ++ codes " " ++ decimal tag ++ codes " "
+command_head (Discard stamp tag ids) =
+    codes "discard" ++ stamp_text stamp ++ codes " " ++ decimal tag ++ codes " "
+command_head (DeadSettle term done) = codes "dead-settle " ++ decimal term.0 ++ codes " "
+command_head command = command_text command
+
+abbrev pub command_ids : Command → List ℕ
+command_ids (Settle stamp tag ids) = numbers_text ids
+command_ids (Return stamp tag ids) = numbers_text ids
+command_ids (Discard stamp tag ids) = numbers_text ids
+command_ids (DeadSettle term done) = numbers_text (map (λ (d : DeadDone). d.number) done)
+command_ids _ = []
+
 -- a kept answer was given again
 abbrev pub again_text : Bool → Answer → List ℕ
 again_text true answer = []

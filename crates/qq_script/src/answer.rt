@@ -1,8 +1,9 @@
-ghost use Rattle.std.specs.Prelude.{◌≡◌, ◌++◌, ◌∷◌, [], Some, OnOk, IsOkUnless, OnErr, IfOk};
+ghost use Rattle.std.specs.Prelude.{◌≡◌, ◌+◌, ◌≤◌, ◌++◌, ◌∷◌, [], length, Some, OnOk, IsOkUnless, OnErr};
 ghost use Rattle.qq_entry.specs.Command.{session};
 ghost use Rattle.qq_script.specs.Text.{seq_of, tag_of, full_text, cause_text, answer_words, content_body, shown_body, is_first_client, line_prefix, answer_text};
 
-use crate::words::{LINE_ROOM, push_mark, push_number, push_numbered, push_session, push_text};
+use crate::piece::{Piece, ROOM};
+use crate::words::{push_line, push_text, put_mark, put_numbered, put_session};
 use qq_base::{Memory, SessionId, Text};
 use qq_entry::{Answer, Cause, Command, Content, Full, Shared};
 use std::alloc::Global;
@@ -45,46 +46,43 @@ fn cause_text(cause: Cause) -> &'static str
     }
 }
 
-/// The words of an answer to the command of this number and tag, without a message's body.
-pub fn push_answer_words(
-    out: &mut Vec<u8>,
-    seq: u64,
-    tag: u32,
-    answer: &Answer,
-) -> Result<(), Memory>
-    ensures ok { OnOk result (out.new.items ≡ out.old.items ++ answer_words seq tag answer.now) }
-    ensures want { IsOkUnless result Memory.Want }
+/// Puts the words of an answer to the command of this number and tag, without a message's body, in front of a piece.
+pub fn put_answer_words(piece: &mut Piece, seq: u64, tag: u32, answer: &Answer)
+    requires { length piece.old ≤ 20 }
+
+    ensures text { piece.new ≡ answer_words seq tag answer.now ++ piece.old }
+    ensures length { length piece.new ≤ 80 }
 {
     match answer {
-        Answer::Lead => push_text(out, "lead"),
-        Answer::Confirmed => push_numbered(out, "confirmed ", seq),
+        Answer::Lead => piece.put_text("lead"),
+        Answer::Confirmed => put_numbered(piece, "confirmed ", seq),
         Answer::Rejected(full) => {
-            push_numbered(out, "rejected ", seq)?;
-            push_text(out, " ")?;
-            push_text(out, full_text(*full))
+            piece.put_text(full_text(*full));
+            piece.put_text(" ");
+            put_numbered(piece, "rejected ", seq);
         }
         Answer::Got(delivery) => {
-            push_text(out, "message ")?;
-            push_mark(out, delivery.arrival, delivery.count)
+            put_mark(piece, delivery.arrival, delivery.count);
+            piece.put_text("message ");
         }
-        Answer::Empty => push_text(out, "empty"),
-        Answer::Subscribed => push_numbered(out, "subscribed ", u64::from(tag)),
+        Answer::Empty => piece.put_text("empty"),
+        Answer::Subscribed => put_numbered(piece, "subscribed ", u64::from(tag)),
         Answer::Refused(cause) => {
-            push_text(out, "refused ")?;
-            push_text(out, cause_text(*cause))
+            piece.put_text(cause_text(*cause));
+            piece.put_text("refused ");
         }
-        Answer::Done => push_text(out, "done"),
-        Answer::Credited { drained } => push_numbered(out, "credited ", *drained),
-        Answer::Purged { count } => push_numbered(out, "purged ", *count),
-        Answer::Down => push_text(out, "down"),
-        Answer::Attached => push_text(out, "attached"),
-        Answer::Stale => push_text(out, "stale"),
-        Answer::DeadSettled { count } => push_numbered(out, "dead-settled ", *count),
-        Answer::Gap { next } => push_numbered(out, "gap ", *next),
-        Answer::Forgotten => push_numbered(out, "forgotten ", seq),
-        Answer::Ended => push_text(out, "ended"),
-        Answer::WindowFull => push_text(out, "window full"),
-        Answer::SessionsFull => push_text(out, "sessions full"),
+        Answer::Done => piece.put_text("done"),
+        Answer::Credited { drained } => put_numbered(piece, "credited ", *drained),
+        Answer::Purged { count } => put_numbered(piece, "purged ", *count),
+        Answer::Down => piece.put_text("down"),
+        Answer::Attached => piece.put_text("attached"),
+        Answer::Stale => piece.put_text("stale"),
+        Answer::DeadSettled { count } => put_numbered(piece, "dead-settled ", *count),
+        Answer::Gap { next } => put_numbered(piece, "gap ", *next),
+        Answer::Forgotten => put_numbered(piece, "forgotten ", seq),
+        Answer::Ended => piece.put_text("ended"),
+        Answer::WindowFull => piece.put_text("window full"),
+        Answer::SessionsFull => piece.put_text("sessions full"),
     }
 }
 
@@ -110,44 +108,15 @@ pub fn push_line_prefix(
     if first && is_first_client(session) {
         return Ok(());
     }
+    let mut client = Piece::new();
+    client.put_text(" ");
     if let Some(session) = session {
-        push_session(out, session)?;
+        put_session(&mut client, session);
     }
-    push_text(out, " ")?;
+    out.reserve(ROOM + queue.len())?;
+    out.extend_from_slice(client.text())?;
     push_text(out, queue)?;
     push_text(out, ": ")
-}
-
-// What the line of an answer has before a message's body.
-fn head(
-    alloc: Global,
-    first: bool,
-    command: &Command,
-    queue: &str,
-    answer: &Answer,
-) -> Result<Vec<u8>, Memory>
-    ensures ok { IfOk result (λ head. head.items ≡
-        line_prefix first (session command.now) queue.now
-        ++ answer_words (seq_of command.now) (tag_of command.now) answer.now) }
-    ensures want { IsOkUnless result Memory.Want }
-{
-    let mut out = Vec::with_capacity(alloc, LINE_ROOM)?;
-    push_line_prefix(&mut out, first, command.session(), queue)?;
-    push_answer_words(&mut out, seq_of(command), tag_of(command), answer)?;
-    Ok(out)
-}
-
-// Adds both pieces and a line feed, or nothing: the room is taken first.
-pub fn push_line(out: &mut Vec<u8>, head: &[u8], body: &[u8]) -> Result<(), Memory>
-    ensures ok { OnOk result (out.new.items ≡ out.old.items ++ (head.now ++ body.now ++ 10 ∷ [])) }
-    ensures err { OnErr result (out.new.items ≡ out.old.items) }
-    ensures want { IsOkUnless result Memory.Want }
-{
-    out.reserve(head.len() + body.len() + 1)?;
-    out.extend_from_slice(head).unwrap();
-    out.extend_from_slice(body).unwrap();
-    out.push_reserved(b'\n');
-    Ok(())
 }
 
 pub fn content_body(content: &Option<Shared<Content>>) -> &[u8]
@@ -156,6 +125,25 @@ pub fn content_body(content: &Option<Shared<Content>>) -> &[u8]
     match content {
         None => &[],
         Some(content) => content.get().body.as_slice(),
+    }
+}
+
+// Puts the words of an answer, and a blank where a message's body follows, which it gives.
+fn put_answer<'a>(piece: &mut Piece, seq: u64, tag: u32, answer: &'a Answer) -> &'a [u8]
+    requires { piece.old ≡ [] }
+
+    ensures { piece.new ++ result.now ≡ answer_words seq tag answer.now ++ shown_body answer.now }
+{
+    match answer {
+        Answer::Got(delivery) => {
+            piece.put_text(" ");
+            put_answer_words(piece, seq, tag, answer);
+            content_body(&delivery.message.content)
+        }
+        _ => {
+            put_answer_words(piece, seq, tag, answer);
+            &[]
+        }
     }
 }
 
@@ -179,7 +167,7 @@ pub fn session_line(
 {
     let mut prefix = Vec::new(alloc);
     push_line_prefix(&mut prefix, first, Some(session), queue.as_str())?;
-    push_line(out, &prefix, words.as_bytes())
+    push_line(out, &prefix, words.as_bytes(), b"")
 }
 
 /// Adds the line of an answer, with its line feed. `first` says that the queue is the first one. Session
@@ -200,12 +188,9 @@ pub fn answer_text(
     ensures err { OnErr result (out.new.items ≡ out.old.items) }
     ensures want { IsOkUnless result Memory.Want }
 {
-    let mut head = head(alloc, first, command, queue.as_str(), answer)?;
-    match answer {
-        Answer::Got(delivery) => {
-            head.push(b' ')?;
-            push_line(out, &head, content_body(&delivery.message.content))
-        }
-        _ => push_line(out, &head, b""),
-    }
+    let mut prefix = Vec::new(alloc);
+    push_line_prefix(&mut prefix, first, command.session(), queue.as_str())?;
+    let mut words = Piece::new();
+    let body = put_answer(&mut words, seq_of(command), tag_of(command), answer);
+    push_line(out, &prefix, words.text(), body)
 }

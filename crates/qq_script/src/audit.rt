@@ -1,11 +1,12 @@
-ghost use Rattle.std.specs.Prelude.{◌≡◌, ◌++◌, OnOk, IsOkUnless, OnErr, IfOk, map, codes};
+ghost use Rattle.std.specs.Prelude.{◌≡◌, ◌+◌, ◌≤◌, ◌++◌, [], length, OnOk, IsOkUnless, OnErr, IfOk, map, codes};
 ghost use Rattle.std.specs.Fmt.{decimal};
 ghost use Rattle.qq_entry.specs.declared.command.DeadDone.{DeadDone};
-ghost use Rattle.qq_script.specs.Text.{seq_of, tag_of};
-ghost use Rattle.qq_script.specs.Audit.{numbers_text, stamp_text, ids_text, command_text, again_text, row_text, audit_head_text, comma_before};
+ghost use Rattle.qq_script.specs.Text.{answer_words, seq_of, tag_of};
+ghost use Rattle.qq_script.specs.Audit.{numbers_text, stamp_text, command_head, command_ids, again_text, row_text, audit_head_text, comma_before};
 
-use crate::answer::{push_answer_words, push_line, seq_of, tag_of};
-use crate::words::{LINE_ROOM, push_number, push_numbered, push_session, push_text};
+use crate::answer::{put_answer_words, seq_of, tag_of};
+use crate::piece::Piece;
+use crate::words::{push_line, push_number, push_numbered, push_text, put_numbered, put_session};
 use qq_base::{Index, Memory, Text};
 use qq_entry::{Answer, AuditRow, Command, DeadDone, Stamp};
 use std::alloc::Global;
@@ -39,117 +40,134 @@ fn push_dead_numbers(out: &mut Vec<u8>, done: &[DeadDone]) -> Result<(), Memory>
     Ok(())
 }
 
-fn push_stamp(out: &mut Vec<u8>, stamp: Stamp) -> Result<(), Memory>
-    ensures ok { OnOk result (out.new.items ≡ out.old.items ++ stamp_text stamp) }
-    ensures want { IsOkUnless result Memory.Want }
+// Puts whom a command is of and its number in front of a piece.
+fn put_stamp(piece: &mut Piece, stamp: Stamp)
+    requires { 64 + length piece.old ≤ 160 }
+
+    ensures text { piece.new ≡ stamp_text stamp ++ piece.old }
+    ensures length { length piece.new ≤ 64 + length piece.old }
 {
-    push_text(out, " ")?;
-    push_session(out, stamp.session)?;
-    push_numbered(out, " ", stamp.seq)
+    put_numbered(piece, " ", stamp.seq);
+    put_session(piece, stamp.session);
+    piece.put_text(" ");
 }
 
-// A word, a stamp and a number.
-fn push_stamped(out: &mut Vec<u8>, word: &str, stamp: Stamp, number: u32) -> Result<(), Memory>
-    ensures ok { OnOk result (out.new.items ≡
-        out.old.items ++ (word.now ++ stamp_text stamp ++ codes " " ++ decimal number)) }
-    ensures want { IsOkUnless result Memory.Want }
+// Puts a word, a stamp and a number in front of a piece.
+fn put_stamped(piece: &mut Piece, word: &str, stamp: Stamp, number: u32)
+    requires word { length word.now ≤ 10 }
+    requires piece { length piece.old ≤ 1 }
+
+    ensures text { piece.new
+        ≡ (word.now ++ stamp_text stamp ++ codes " " ++ decimal number) ++ piece.old }
+    ensures length { length piece.new ≤ 96 }
 {
-    push_text(out, word)?;
-    push_stamp(out, stamp)?;
-    push_numbered(out, " ", u64::from(number))
+    put_numbered(piece, " ", u64::from(number));
+    put_stamp(piece, stamp);
+    piece.put_text(word);
 }
 
-// A word, a stamp, a tag and ids.
-fn push_ids(
-    out: &mut Vec<u8>,
-    word: &str,
-    stamp: Stamp,
-    tag: u32,
-    ids: &[u64],
-) -> Result<(), Memory>
-    ensures ok { OnOk result (out.new.items ≡
-        out.old.items ++ ids_text word.now stamp tag ids.now) }
-    ensures want { IsOkUnless result Memory.Want }
+// Puts a word, a stamp and a tag in front of the ids that follow.
+fn put_before_ids(piece: &mut Piece, word: &str, stamp: Stamp, tag: u32)
+    requires word { length word.now ≤ 10 }
+    requires piece { piece.old ≡ [] }
+
+    ensures text { piece.new ≡ word.now ++ stamp_text stamp ++ codes " " ++ decimal tag ++ codes " " }
+    ensures length { length piece.new ≤ 96 }
 {
-    push_stamped(out, word, stamp, tag)?;
-    push_text(out, " ")?;
-    push_numbers(out, ids)
+    piece.put_text(" ");
+    put_stamped(piece, word, stamp, tag);
 }
 
-fn push_dead_settle(out: &mut Vec<u8>, term: u64, done: &[DeadDone]) -> Result<(), Memory>
-    ensures ok { OnOk result (out.new.items ≡
-        out.old.items ++ (codes "dead-settle " ++ decimal term ++ codes " "
-        ++ numbers_text (map (λ (d : DeadDone). d.number) done.now))) }
-    ensures want { IsOkUnless result Memory.Want }
+// A command without the ids that it names, whose text may have any length.
+fn put_command(piece: &mut Piece, command: &Command)
+    requires { piece.old ≡ [] }
+
+    ensures text { piece.new ≡ command_head command.now }
+    ensures length { length piece.new ≤ 96 }
 {
-    push_numbered(out, "dead-settle ", term)?;
-    push_text(out, " ")?;
-    push_dead_numbers(out, done)
+    match command {
+        Command::Noop { version } => put_numbered(piece, "noop ", u64::from(*version)),
+        Command::Enqueue { stamp, message, .. } => {
+            put_stamped(piece, "enqueue", *stamp, message.size)
+        }
+        Command::Get { stamp } => {
+            put_stamp(piece, *stamp);
+            piece.put_text("get")
+        }
+        Command::Subscribe { stamp, tag, .. } => put_stamped(piece, "subscribe", *stamp, *tag),
+        Command::Cancel { stamp, tag } => put_stamped(piece, "cancel", *stamp, *tag),
+        Command::Credit { stamp, tag, .. } => put_stamped(piece, "credit", *stamp, *tag),
+        Command::Settle { stamp, tag, .. } => put_before_ids(piece, "settle", *stamp, *tag),
+        Command::Return { stamp, tag, .. } => put_before_ids(piece, "return", *stamp, *tag),
+        Command::Discard { stamp, tag, .. } => put_before_ids(piece, "discard", *stamp, *tag),
+        Command::Purge { stamp } => {
+            put_stamp(piece, *stamp);
+            piece.put_text("purge")
+        }
+        Command::Down { session } => {
+            put_session(piece, *session);
+            piece.put_text("down ")
+        }
+        Command::DeadAttach { term } => put_numbered(piece, "dead-attach ", term.0),
+        Command::DeadSettle { term, .. } => {
+            piece.put_text(" ");
+            put_numbered(piece, "dead-settle ", term.0)
+        }
+    }
 }
 
-fn push_command(out: &mut Vec<u8>, command: &Command) -> Result<(), Memory>
-    ensures ok { OnOk result (out.new.items ≡ out.old.items ++ command_text command.now) }
+// Adds the ids that a command names.
+fn push_ids(out: &mut Vec<u8>, command: &Command) -> Result<(), Memory>
+    ensures ok { OnOk result (out.new.items ≡ out.old.items ++ command_ids command.now) }
     ensures want { IsOkUnless result Memory.Want }
 {
     match command {
-        Command::Noop { version } => push_numbered(out, "noop ", u64::from(*version)),
-        Command::Enqueue { stamp, message, .. } => {
-            push_stamped(out, "enqueue", *stamp, message.size)
-        }
-        Command::Get { stamp } => {
-            push_text(out, "get")?;
-            push_stamp(out, *stamp)
-        }
-        Command::Subscribe { stamp, tag, .. } => push_stamped(out, "subscribe", *stamp, *tag),
-        Command::Cancel { stamp, tag } => push_stamped(out, "cancel", *stamp, *tag),
-        Command::Credit { stamp, tag, .. } => push_stamped(out, "credit", *stamp, *tag),
-        Command::Settle { stamp, tag, ids } => {
-            push_ids(out, "settle", *stamp, *tag, ids.as_slice())
-        }
-        Command::Return { stamp, tag, ids } => {
-            push_ids(out, "return", *stamp, *tag, ids.as_slice())
-        }
-        Command::Discard { stamp, tag, ids } => {
-            push_ids(out, "discard", *stamp, *tag, ids.as_slice())
-        }
-        Command::Purge { stamp } => {
-            push_text(out, "purge")?;
-            push_stamp(out, *stamp)
-        }
-        Command::Down { session } => {
-            push_text(out, "down ")?;
-            push_session(out, *session)
-        }
-        Command::DeadAttach { term } => push_numbered(out, "dead-attach ", term.0),
-        Command::DeadSettle { term, done } => push_dead_settle(out, term.0, done.as_slice()),
+        Command::Settle { ids, .. } => push_numbers(out, ids.as_slice()),
+        Command::Return { ids, .. } => push_numbers(out, ids.as_slice()),
+        Command::Discard { ids, .. } => push_numbers(out, ids.as_slice()),
+        Command::DeadSettle { done, .. } => push_dead_numbers(out, done.as_slice()),
+        _ => Ok(()),
     }
 }
 
-fn push_again(out: &mut Vec<u8>, fresh: bool, answer: &Answer) -> Result<(), Memory>
-    ensures ok { OnOk result (out.new.items ≡ out.old.items ++ again_text fresh answer.now) }
-    ensures want { IsOkUnless result Memory.Want }
+// Puts in front of a piece that a kept answer was given again.
+fn put_again(piece: &mut Piece, fresh: bool, answer: &Answer)
+    requires { piece.old ≡ [] }
+
+    ensures text { piece.new ≡ again_text fresh answer.now }
+    ensures length { length piece.new ≤ 6 }
 {
     if fresh || answer.comes_from_gate() {
-        return Ok(());
+        return;
     }
-    push_text(out, " again")
+    piece.put_text(" again");
 }
 
-// A row without its line feed.
-fn row_words(alloc: Global, row: &AuditRow) -> Result<Vec<u8>, Memory>
-    ensures ok { IfOk result (λ words. row_text row.now ≡ words.items ++ codes "\n") }
-    ensures want { IsOkUnless result Memory.Want }
+// A row up to the ids that its command names.
+fn put_row_start(piece: &mut Piece, row: &AuditRow)
+    requires { piece.old ≡ [] }
+
+    ensures { piece.new ≡ decimal row.now.index.0 ++ codes " " ++ decimal row.now.entry.term.0
+        ++ codes " " ++ command_head row.now.entry.command }
 {
-    let mut out = Vec::with_capacity(alloc, LINE_ROOM)?;
+    put_command(piece, row.entry.command.get());
+    piece.put_text(" ");
+    put_numbered(piece, " ", row.entry.term.0);
+    piece.put_number(row.index.0);
+}
+
+// What a row has after the ids, without its line feed.
+fn put_row_end(piece: &mut Piece, row: &AuditRow)
+    requires { piece.old ≡ [] }
+
+    ensures { piece.new ≡ codes " "
+        ++ answer_words (seq_of row.now.entry.command) (tag_of row.now.entry.command) row.now.answer
+        ++ again_text row.now.fresh row.now.answer }
+{
     let command = row.entry.command.get();
-    push_number(&mut out, row.index.0)?;
-    push_numbered(&mut out, " ", row.entry.term.0)?;
-    push_text(&mut out, " ")?;
-    push_command(&mut out, command)?;
-    push_text(&mut out, " ")?;
-    push_answer_words(&mut out, seq_of(command), tag_of(command), &row.answer)?;
-    push_again(&mut out, row.fresh, &row.answer)?;
-    Ok(out)
+    put_again(piece, row.fresh, &row.answer);
+    put_answer_words(piece, seq_of(command), tag_of(command), &row.answer);
+    piece.put_text(" ");
 }
 
 /// Adds the line of an audit's row, with its line feed.
@@ -161,8 +179,13 @@ pub fn row_text(alloc: Global, row: &AuditRow, out: &mut Vec<u8>) -> Result<(), 
     ensures err { OnErr result (out.new.items ≡ out.old.items) }
     ensures want { IsOkUnless result Memory.Want }
 {
-    let words = row_words(alloc, row)?;
-    push_line(out, &words, b"")
+    let mut start = Piece::new();
+    put_row_start(&mut start, row);
+    let mut ids = Vec::new(alloc);
+    push_ids(&mut ids, row.entry.command.get())?;
+    let mut end = Piece::new();
+    put_row_end(&mut end, row);
+    push_line(out, start.text(), &ids, end.text())
 }
 
 // The first line of an audit, without its line feed.
@@ -196,5 +219,5 @@ pub fn audit_head_text(
     ensures want { IsOkUnless result Memory.Want }
 {
     let words = head_words(alloc, queue.as_str(), start.0, count)?;
-    push_line(out, &words, b"")
+    push_line(out, &words, b"", b"")
 }

@@ -1,45 +1,26 @@
-ghost use Rattle.std.specs.Prelude.{◌≡◌, ◌++◌, ◌∷◌, [], Some, OnOk, IsOkUnless, OnErr, IfOk};
-ghost use Rattle.qq_script.specs.Text.{delivery_words, delivery_text, line_prefix};
+ghost use Rattle.std.specs.Prelude.{◌≡◌, ◌++◌, ◌∷◌, [], Some, OnOk, IsOkUnless, OnErr};
+ghost use Rattle.qq_script.specs.Text.{content_body, delivery_words, delivery_text, line_prefix};
 
-use crate::answer::{content_body, push_line, push_line_prefix};
-use crate::words::{LINE_ROOM, push_mark, push_numbered, push_text};
+use crate::answer::{content_body, push_line_prefix};
+use crate::piece::Piece;
+use crate::words::{push_line, put_mark, put_numbered};
 use qq_base::{ConsumerId, Memory, Text};
 use qq_entry::Delivery;
 use std::alloc::Global;
 
-fn push_delivery_words(
-    out: &mut Vec<u8>,
-    consumer: ConsumerId,
-    delivery: &Delivery,
-) -> Result<(), Memory>
-    ensures ok { OnOk result
-        (out.new.items ≡ out.old.items ++ delivery_words consumer delivery.now) }
-    ensures want { IsOkUnless result Memory.Want }
-{
-    push_numbered(out, "deliver ", u64::from(consumer.tag))?;
-    push_numbered(out, " ", delivery.id)?;
-    push_text(out, " ")?;
-    push_mark(out, delivery.arrival, delivery.count)
-}
+// Puts the words of a delivery and a blank, and gives the message's body, which follows.
+fn put_delivery<'a>(piece: &mut Piece, consumer: ConsumerId, delivery: &'a Delivery) -> &'a [u8]
+    requires { piece.old ≡ [] }
 
-// What the line of a delivery has before the message's body.
-fn head(
-    alloc: Global,
-    first: bool,
-    queue: &str,
-    consumer: ConsumerId,
-    delivery: &Delivery,
-) -> Result<Vec<u8>, Memory>
-    ensures ok { IfOk result (λ head. head.items ≡
-        line_prefix first (Some consumer.session) queue.now
-        ++ delivery_words consumer delivery.now ++ 32 ∷ []) }
-    ensures want { IsOkUnless result Memory.Want }
+    ensures { piece.new ++ result.now ≡ delivery_words consumer delivery.now
+        ++ 32 ∷ content_body delivery.now.message.content }
 {
-    let mut out = Vec::with_capacity(alloc, LINE_ROOM)?;
-    push_line_prefix(&mut out, first, Some(consumer.session), queue)?;
-    push_delivery_words(&mut out, consumer, delivery)?;
-    out.push(b' ')?;
-    Ok(out)
+    piece.put_text(" ");
+    put_mark(piece, delivery.arrival, delivery.count);
+    piece.put_text(" ");
+    put_numbered(piece, " ", delivery.id);
+    put_numbered(piece, "deliver ", u64::from(consumer.tag));
+    content_body(&delivery.message.content)
 }
 
 /// Adds the line of a delivery to a consumer, with its line feed. `first` says that the queue is the first
@@ -60,6 +41,9 @@ pub fn delivery_text(
     ensures err { OnErr result (out.new.items ≡ out.old.items) }
     ensures want { IsOkUnless result Memory.Want }
 {
-    let head = head(alloc, first, queue.as_str(), consumer, delivery)?;
-    push_line(out, &head, content_body(&delivery.message.content))
+    let mut prefix = Vec::new(alloc);
+    push_line_prefix(&mut prefix, first, Some(consumer.session), queue.as_str())?;
+    let mut words = Piece::new();
+    let body = put_delivery(&mut words, consumer, delivery);
+    push_line(out, &prefix, words.text(), body)
 }

@@ -4,6 +4,7 @@
 mod answer;
 mod audit;
 mod delivery;
+mod piece;
 mod words;
 
 pub use answer::{answer_text, seq_of, session_line};

@@ -1,5 +1,0 @@
-use Rattle.qq_script.proofs.audit.push_command.Goals as goal
-
-pub returns-in-DeadSettle-clause-ok : goal.returns-in-DeadSettle-clause-ok
-returns-in-DeadSettle-clause-ok c =
-    rw (c.in-DeadSettle.is, ← c.as_slice-in-DeadSettle.ensures) c.push_dead_settle.ensures.ok
