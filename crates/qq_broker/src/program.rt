@@ -123,6 +123,7 @@ fn serve_lines<Y: Yard, T: Taker, I: Source, O: Sink>(
         if let Err(stop) = answer(alloc, setup, nodes, yard, served, line.as_slice(), told) {
             return Err(Stop::from(stop));
         }
+        lines.reuse(line);
         served += 1;
     }
 }

@@ -19,6 +19,8 @@ const CHUNK: usize = 16_384;
 pub struct Lines {
     // None until the first line is asked for: making a reader takes no memory.
     chunk: Option<Chunk>,
+    // A line that was given back.
+    spare: Option<Vec<u8>>,
 }
 
 impl Model for Lines {
@@ -34,7 +36,31 @@ impl Lines {
     pub fn new() -> Self
         ensures { result ≡ [] }
     {
-        Lines { chunk: None }
+        Lines {
+            chunk: None,
+            spare: None,
+        }
+    }
+
+    /// Takes back a line that was handed out. The next line is written in its memory.
+    pub fn reuse(&mut self, line: Bytes)
+        ensures { self.new ≡ self.old }
+    {
+        self.spare = Some(line.into_vec());
+    }
+
+    // No bytes, in the memory of a line that was given back, if there is one.
+    fn take_spare(&mut self, alloc: Global) -> Vec<u8>
+        ensures same { self.new ≡ self.old }
+        ensures empty { result.items ≡ [] }
+    {
+        match self.spare.take() {
+            Some(mut line) => {
+                line.clear();
+                line
+            }
+            None => Vec::new(alloc),
+        }
     }
 }
 
@@ -201,12 +227,13 @@ fn without_return(mut raw: Vec<u8>) -> Vec<u8>
     raw
 }
 
-// The next line of the source, behind a chunk that was read of it.
+// The next line of the source, behind a chunk that was read of it. Its bytes go to `raw`.
 fn chunk_line<I: Source>(
-    alloc: Global,
     input: &mut I,
     lines: &mut Chunk,
+    mut raw: Vec<u8>,
 ) -> Result<Option<Bytes>, LineFault>
+    requires empty { raw.items ≡ [] }
     ensures line { IfOk result (λ found. IfSome found (TakesLine
         (ahead lines.old (I.left input.old)) (ahead lines.new (I.left input.new)))) }
     ensures end { IfOk result (λ found.
@@ -218,7 +245,6 @@ fn chunk_line<I: Source>(
     ensures cause { IfErr result (λ e. HasLineCause e (ahead lines.old (I.left input.old))
         (I.left input.new) (Rose (I.faults input.old) (I.faults input.new))) }
 {
-    let mut raw = Vec::new(alloc);
     'pieces: while lines.has_more(input)? {
         if lines.take_piece(&mut raw)? {
             return Ok(Some(Bytes::from_vec(without_return(raw))));
@@ -266,7 +292,8 @@ pub fn next_line<I: Source>(
         Some(chunk) => chunk,
         None => Chunk::new(alloc)?,
     };
-    let line = chunk_line(alloc, input, &mut chunk);
+    let raw = lines.take_spare(alloc);
+    let line = chunk_line(input, &mut chunk, raw);
     lines.chunk = Some(chunk);
     line
 }

@@ -1,4 +1,6 @@
 mod Causes
 mod Counts
+mod FirstWords
 mod Reading
+mod Sends
 mod Writings

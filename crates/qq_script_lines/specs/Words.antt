@@ -11,6 +11,11 @@ is_blank b = b == 32
 abbrev pub words_of : List ℕ → List (List ℕ)
 words_of text = slice_split is_blank text
 
+-- the words of what stands behind a blank, none where there is no blank
+abbrev pub words_behind : Option (List ℕ) → List (List ℕ)
+words_behind None = []
+words_behind (Some rest) = words_of rest
+
 -- what stands behind the first blank
 abbrev pub behind_blank : List ℕ → List ℕ
 behind_blank text = after_first is_blank text

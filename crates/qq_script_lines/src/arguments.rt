@@ -1,8 +1,9 @@
 //! What the words behind a line's first one say.
-ghost use Rattle.std.specs.Prelude.{◌≡◌, map, Ok, IfOk, IfErr};
+ghost use Rattle.std.specs.Prelude.{◌≡◌, List, ℕ, map, Ok, IfOk, IfErr};
 ghost use Rattle.qq_script_lines.specs.Arguments.{no_word, one_session, one_queue, one_node, some_nodes, one_member, one_message, is_written, consumer_of, attach_to, attach, crash, key_of, send_to, send, publish};
 ghost use Rattle.qq_script_lines.specs.Lines.{HasScriptCause, IsOfLine};
 ghost use Rattle.std.specs.Option.{option_map};
+ghost use Rattle.qq_script_lines.specs.Words.{behind_blank, behind_four, words_of};
 
 use crate::bodies::body_of;
 use crate::fault::ScriptFault;
@@ -10,7 +11,7 @@ use crate::images::image_of;
 use crate::line::{Nodes, ScriptLine};
 use crate::names::{first_queue, node_of, nodes_of, queue_at, queue_of};
 use crate::numbers::{is_number, number_in, place_of, session_of, tag_of};
-use crate::words::{behind_four, text_of};
+use crate::words::{first_word, text_of};
 use qq_base::{NodeId, QueueId, SessionId, Text};
 use qq_entry::KEY_LIMIT;
 use qq_setup::Setup;
@@ -202,20 +203,20 @@ fn key_of(word: &str) -> Option<&str>
     Some(text_of(word))
 }
 
-// The whole line, its session, exchange and key.
+// The session, exchange and key of a line, and what stands behind its four words.
 fn send_to(
     alloc: Global,
-    line: &str,
     session: SessionId,
     exchange: &str,
     key: &str,
+    text: &str,
 ) -> Result<ScriptLine, ScriptFault>
-    ensures ok { IfOk result (λ said.
-        send_to line.now session exchange.now key.now ≡ Ok said) }
-    ensures cause { IfErr result (λ e.
-        HasScriptCause e (send_to line.now session exchange.now key.now)) }
+    ensures ok { (line : List ℕ) → behind_four line ≡ text.now → IfOk result (λ said.
+        send_to line session exchange.now key.now ≡ Ok said) }
+    ensures cause { (line : List ℕ) → behind_four line ≡ text.now → IfErr result (λ e.
+        HasScriptCause e (send_to line session exchange.now key.now)) }
 {
-    let body = match body_of(alloc, behind_four(line).as_bytes()) {
+    let body = match body_of(alloc, text.as_bytes()) {
         Ok(body) => body,
         Err(fault) => return Err(fault),
     };
@@ -227,27 +228,30 @@ fn send_to(
     })
 }
 
-/// `S X K BODY` behind the first word of a line.
+/// `S X K BODY` behind the first word of a line. The words of the body aren't looked for: it may have thousands.
 #[tactic(auto, unfolding(crate::specs::Arguments::send))]
-pub fn send(alloc: Global, line: &str, words: &[&str]) -> Result<ScriptLine, ScriptFault>
-    ensures ok { IfOk result (λ said.
-        send line.now (map (λ w. w.now) words.now) ≡ Ok said) }
-    ensures cause { IfErr result (λ e.
-        HasScriptCause e (send line.now (map (λ w. w.now) words.now))) }
+pub fn send(alloc: Global, rest: &str) -> Result<ScriptLine, ScriptFault>
+    ensures ok { (line : List ℕ) → behind_blank line ≡ rest.now → IfOk result (λ said.
+        send line (words_of rest.now) ≡ Ok said) }
+    ensures cause { (line : List ℕ) → behind_blank line ≡ rest.now → IfErr result (λ e.
+        HasScriptCause e (send line (words_of rest.now))) }
 {
-    let [session, exchange, key, body @ ..] = words else {
+    let (session, Some(rest)) = first_word(rest) else {
         return Err(ScriptFault::Words);
     };
-    if body.is_empty() {
+    let (exchange, Some(rest)) = first_word(rest) else {
         return Err(ScriptFault::Words);
-    }
+    };
+    let (key, Some(text)) = first_word(rest) else {
+        return Err(ScriptFault::Words);
+    };
     let Some(key) = key_of(key) else {
         return Err(ScriptFault::Words);
     };
     let Some(session) = session_of(session) else {
         return Err(ScriptFault::Number);
     };
-    send_to(alloc, line, session, text_of(exchange), key)
+    send_to(alloc, session, text_of(exchange), key, text)
 }
 
 /// `BODY`, to the first queue.

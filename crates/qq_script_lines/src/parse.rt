@@ -1,6 +1,7 @@
-ghost use Rattle.std.specs.Prelude.{◌≡◌, map, Ok, IfOk, IfErr};
+ghost use Rattle.std.specs.Prelude.{◌≡◌, List, ℕ, [], false, codes, map, unwrap_or, Ok, IfOk, IfErr};
 ghost use Rattle.std.specs.Option.{option_map};
-ghost use Rattle.std.specs.Str.{is_utf8};
+ghost use Rattle.std.specs.Str.{bytes_eq, is_utf8};
+ghost use Rattle.qq_script_lines.specs.Words.{behind_blank, words_of, words_behind};
 ghost use Rattle.qq_script_lines.specs.Lines.{is_nothing, publish_text, node_line, plain_line, plain_or_client, read, is_client, in_place, read_words, text_in, read_text, parse_line, HasScriptCause, IsOfLine};
 
 use crate::arguments::{
@@ -11,7 +12,7 @@ use crate::bodies::begins_with;
 use crate::commands::client_line;
 use crate::fault::ScriptFault;
 use crate::line::{LINE_LIMIT, Place, ScriptLine};
-use crate::words::parts_of;
+use crate::words::{first_word, words_behind};
 use qq_setup::Setup;
 use std::alloc::Global;
 
@@ -144,23 +145,32 @@ fn plain_or_client(
     }
 }
 
-// What a whole line says, by its first word and the words behind it.
+// Most lines of a load are this one: a `match` on the text would compare each of its words by a call.
+fn is_send(word: &str) -> bool
+    ensures { result ≡ bytes_eq word.now (codes "send") }
+{
+    match word.as_bytes() {
+        [b's', b'e', b'n', b'd'] => true,
+        _ => false,
+    }
+}
+
+// What the words of a line say but of a `send`, by the first one and those behind it.
 #[tactic(auto, using(crate::proofs::Causes::line_cause), unfolding(crate::specs::Lines::read))]
-fn read(
+fn read_listed(
     alloc: Global,
     setup: &Setup,
-    line: &str,
     word: &str,
     words: &[&str],
 ) -> Result<ScriptLine, ScriptFault>
-    ensures ok { IfOk result (λ said.
-        read setup.now line.now word.now (map (λ w. w.now) words.now) ≡ Ok said) }
-    ensures cause { IfErr result (λ e.
-        HasScriptCause e (read setup.now line.now word.now (map (λ w. w.now) words.now))) }
+    requires { bytes_eq word.now (codes "send") ≡ false }
+    ensures ok { (line : List ℕ) → IfOk result (λ said.
+        read setup.now line word.now (map (λ w. w.now) words.now) ≡ Ok said) }
+    ensures cause { (line : List ℕ) → IfErr result (λ e.
+        HasScriptCause e (read setup.now line word.now (map (λ w. w.now) words.now))) }
 {
     match word {
         "publish" => Err(ScriptFault::Words),
-        "send" => send(alloc, line, words),
         "crash" => crash(alloc, setup, words),
         "attach" => match attach(setup, words) {
             Ok(said) => Ok(said),
@@ -168,6 +178,36 @@ fn read(
         },
         _ => plain_or_client(alloc, setup, word, words),
     }
+}
+
+// What a whole line says, by its first word and what stands behind it.
+#[tactic(auto, using(crate::proofs::Sends::sends), unfolding(crate::specs::Arguments::send))]
+fn read(
+    alloc: Global,
+    setup: &Setup,
+    word: &str,
+    rest: Option<&str>,
+) -> Result<ScriptLine, ScriptFault>
+    ensures ok { (line : List ℕ) →
+        behind_blank line ≡ unwrap_or (option_map (λ text. text.now) rest.entry) [] →
+        IfOk result (λ said. read setup.now line word.now
+        (words_behind (option_map (λ text. text.now) rest.entry)) ≡ Ok said) }
+    ensures cause { (line : List ℕ) →
+        behind_blank line ≡ unwrap_or (option_map (λ text. text.now) rest.entry) [] →
+        IfErr result (λ e. HasScriptCause e (read setup.now line word.now
+        (words_behind (option_map (λ text. text.now) rest.entry)))) }
+{
+    if is_send(word) {
+        return match rest {
+            Some(rest) => send(alloc, rest),
+            None => Err(ScriptFault::Words),
+        };
+    }
+    let words = match words_behind(alloc, rest) {
+        Ok(words) => words,
+        Err(cause) => return Err(ScriptFault::Memory(cause)),
+    };
+    read_listed(alloc, setup, word, words.as_slice())
 }
 
 // Whether a client's section may have it.
@@ -195,22 +235,20 @@ fn in_place(place: Place, said: ScriptLine) -> Result<ScriptLine, ScriptFault>
     Err(ScriptFault::Session)
 }
 
+// What a text says where it stands.
 fn read_words(
     alloc: Global,
     setup: &Setup,
     place: Place,
     line: &str,
-    words: &[&str],
 ) -> Result<ScriptLine, ScriptFault>
     ensures ok { IfOk result (λ said.
-        read_words setup.now place line.now (map (λ w. w.now) words.now) ≡ Ok said) }
+        read_words setup.now place line.now (words_of line.now) ≡ Ok said) }
     ensures cause { IfErr result (λ e.
-        HasScriptCause e (read_words setup.now place line.now (map (λ w. w.now) words.now))) }
+        HasScriptCause e (read_words setup.now place line.now (words_of line.now))) }
 {
-    let [word, words @ ..] = words else {
-        return Err(ScriptFault::Unknown);
-    };
-    match read(alloc, setup, line, word, words) {
+    let (word, rest) = first_word(line);
+    match read(alloc, setup, word, rest) {
         Ok(said) => in_place(place, said),
         Err(fault) => Err(fault),
     }
@@ -239,11 +277,7 @@ fn read_text(
     let Some(text) = text_in(line) else {
         return Err(ScriptFault::Unknown);
     };
-    let words = match parts_of(alloc, ' ', text) {
-        Ok(words) => words,
-        Err(cause) => return Err(ScriptFault::Memory(cause)),
-    };
-    read_words(alloc, setup, place, text, words.as_slice())
+    read_words(alloc, setup, place, text)
 }
 
 /// Reads one line of a script, without its line feed. The setup says which nodes and queues there are.

@@ -1,6 +1,7 @@
-ghost use Rattle.std.specs.Prelude.{◌≡◌, ◌<◌, ◌==◌, map, IfOk, IsOkUnless};
+ghost use Rattle.std.specs.Prelude.{◌≡◌, ◌<◌, ◌==◌, ◌∷◌, [], map, position, unwrap_or, IfOk, IsOkUnless};
 ghost use Rattle.std.specs.List.{slice_split};
-ghost use Rattle.qq_script_lines.specs.Words.{behind_blank, behind_four, text_of};
+ghost use Rattle.std.specs.Option.{option_map};
+ghost use Rattle.qq_script_lines.specs.Words.{is_blank, behind_blank, words_of, words_behind, text_of};
 
 use qq_base::Memory;
 use std::alloc::Global;
@@ -16,29 +17,44 @@ pub fn parts_of<'a>(alloc: Global, at: char, text: &'a str) -> Result<Vec<&'a st
     Ok(text.split(at).collect(alloc)?)
 }
 
-/// What stands behind the first blank.
-fn behind_blank(text: &str) -> &str
-    ensures { result.now ≡ behind_blank text.now }
+// The place of the first blank.
+fn blank_place(text: &[u8]) -> Option<usize>
+    ensures { result ≡ position is_blank text.now }
 {
-    match text.split_once(' ') {
-        Some((_, rest)) => rest,
-        None => "",
+    text.iter().position(|byte| *byte == b' ')
+}
+
+/// The first word, and what stands behind its blank, if it has one.
+pub fn first_word(text: &str) -> (&str, Option<&str>)
+    ensures words { words_of text.now ≡ result.0.now
+        ∷ words_behind (option_map (λ rest. rest.now) result.1) }
+    ensures rest { behind_blank text.now
+        ≡ unwrap_or (option_map (λ rest. rest.now) result.1) [] }
+{
+    match blank_place(text.as_bytes()) {
+        Some(place) => (&text[..place], Some(&text[place + 1..])),
+        None => (text, None),
     }
 }
 
-/// What stands behind four words.
-pub fn behind_four(text: &str) -> &str
-    ensures { result.now ≡ behind_four text.now }
+/// The words of what stands behind a blank.
+pub fn words_behind<'a>(alloc: Global, rest: Option<&'a str>) -> Result<Vec<&'a str>, Memory>
+    ensures ok { IfOk result (λ words. map (λ word. word.now) words.items
+        ≡ words_behind (option_map (λ text. text.now) rest.entry)) }
+    ensures want { IsOkUnless result Memory.Want }
 {
-    behind_blank(behind_blank(behind_blank(behind_blank(text))))
+    match rest {
+        Some(text) => parts_of(alloc, ' ', text),
+        None => Ok(Vec::new(alloc)),
+    }
 }
 
 /// A text, or `-` for the empty one.
 pub fn text_of(word: &str) -> &str
     ensures { result.now ≡ text_of word.now }
 {
-    match word {
-        "-" => "",
+    match word.as_bytes() {
+        [b'-'] => "",
         _ => word,
     }
 }

@@ -136,7 +136,7 @@ lines-preserved g c =
     (rw c.in-Ok-Some.field-0-is at c.in-Ok-Some.ensures.line) in
     record {
       going = λ given first opened. (let so = c.lines.invariant.going given first opened in
-          lines-go-on given disk.facts first c.args.setup.now (at c.args.input.now c.args.output.now) c.lines.nodes
+          rw c.reuse.ensures (lines-go-on given disk.facts first c.args.setup.now (at c.args.input.now c.args.output.now) c.lines.nodes
           c.lines.told.takers now (sink c.lines.output) (at c.next_line.new.input c.write_all.new.out) c.lines.served c.lines.told.text c.text.result.now so
           c.text.ensures c.in_default.ensures.ok c.answer.new.nodes c.answer.new.told.takers next
           c.as_slice.result.now c.clear.new.self c.answer.new.told c.lines_law.ensures takes
@@ -144,7 +144,7 @@ lines-preserved g c =
           (c.in_default-answer.ensures.ok given first so.run so.lines
           (subst
           (λ (t : Takers). HoldsAll given disk.facts c.args.setup.now first c.lines.nodes t so.run)
-          (sym (ap (λ (o : Outcome). o.takers) c.clear.ensures)) so.stands)));
+          (sym (ap (λ (o : Outcome). o.takers) c.clear.ensures)) so.stands))));
       within = omega (arith, c.in_default-answer.ensures.within);
       source_later = omega (arith, c.lines.invariant.source_later, c.in-Ok-Some.ensures.later);
       sink_later = omega (arith, c.lines.invariant.sink_later, c.in_default.ensures.cause.later);
