@@ -36,6 +36,7 @@ impl Ledger {
     }
 
     /// Makes room for one that comes and one that leaves. Nothing else changes, after an error neither.
+    #[inline(always)]
     pub fn reserve(&mut self) -> Result<(), Memory>
         ensures came { self.new.came.items ≡ self.old.came.items }
         ensures gone { self.new.gone.items ≡ self.old.gone.items }

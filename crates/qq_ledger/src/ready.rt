@@ -39,6 +39,7 @@ impl Holds for Ready {
 impl Tracked<Ready> {
     /// Puts a message at the back, with the next key there. There has to be a key. After an error all is as
     /// before.
+    #[inline(always)]
     pub fn push_back(&mut self, row: ReadyRow) -> Result<(), Memory>
         requires counts { self.old.store.queue.orders + 1 < 2 ^ 64 }
 

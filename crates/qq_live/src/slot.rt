@@ -17,6 +17,7 @@ pub struct Slot {
 }
 
 /// The first place at which the index isn't below this one.
+#[inline(always)]
 pub fn place_of(index: Index, slots: &VecDeque<Slot>) -> usize
     requires { SlotsRise slots.now.items }
 
@@ -65,6 +66,11 @@ fn insert_at(slots: &mut VecDeque<Slot>, place: usize, slot: Slot)
     ensures len { deque_len slots.new ≡ deque_len slots.old + 1 }
     ensures capacity { deque_capacity slots.old ≤ deque_capacity slots.new }
 {
+    // Most come behind all others, where nothing moves.
+    if place == slots.len() {
+        slots.push_back_reserved(slot);
+        return;
+    }
     match slots.insert(place, slot) {
         Ok(()) => {}
         Err(_) => unreachable!(),

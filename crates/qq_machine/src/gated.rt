@@ -40,6 +40,7 @@ impl Model for Gated {
 }
 
 // A command that has passed the gate counts as carried out.
+#[inline(always)]
 fn pass(sessions: &mut Sessions, stamp: &Stamp, tag: Option<u32>)
     requires { HasPlaceFor stamp.now.session sessions.old }
 
@@ -52,20 +53,22 @@ fn pass(sessions: &mut Sessions, stamp: &Stamp, tag: Option<u32>)
     }
 }
 
-fn perform(sessions: &mut Sessions, pending: Pending)
-    requires { CanBeDone pending sessions.old }
+// Does what is to be done, whose answer moves to the sessions.
+#[inline(always)]
+fn perform(sessions: &mut Sessions, pending: &mut Pending)
+    requires { CanBeDone pending.old sessions.old }
 
-    ensures { sessions.new.known ≡ done pending sessions.old.known }
+    ensures { sessions.new.known ≡ done pending.old sessions.old.known }
 {
     match pending {
         Pending::Nothing => {}
-        Pending::TurnedAway(stamp) => sessions.advance(&stamp),
-        Pending::Passed { stamp, tag } => pass(sessions, &stamp, tag),
+        Pending::TurnedAway(stamp) => sessions.advance(stamp),
+        Pending::Passed { stamp, tag } => pass(sessions, stamp, *tag),
         Pending::Answered { stamp, tag, answer } => {
-            pass(sessions, &stamp, tag);
-            sessions.keep(&stamp, answer);
+            pass(sessions, stamp, *tag);
+            sessions.keep(stamp, mem::replace(answer, Answer::Done));
         }
-        Pending::Ended(session) => sessions.end(session),
+        Pending::Ended(session) => sessions.end(*session),
     }
 }
 
@@ -223,15 +226,16 @@ impl Gated {
             within ≡ list_all is_session_within self.now.known.opened) }
         ensures want { IsOkUnless result Memory.Want }
     {
-        let (mut twin, pending) = both(self.sessions.copy(alloc), self.pending.copy(alloc))?;
+        let (mut twin, mut pending) = both(self.sessions.copy(alloc), self.pending.copy(alloc))?;
         if let Err(cause) = make_room(alloc, &mut twin, &pending) {
             drop(twin);
             drop(pending);
             return Err(cause);
         }
-        perform(&mut twin, pending);
+        perform(&mut twin, &mut pending);
         let within = twin.are_within();
         drop(twin);
+        drop(pending);
         Ok(within)
     }
 
@@ -241,8 +245,8 @@ impl Gated {
         ensures base { self.new.base ≡ self.old.known }
         ensures pending { self.new.pending ≡ Nothing }
     {
-        let pending = mem::replace(&mut self.pending, Pending::Nothing);
-        perform(&mut self.sessions, pending);
+        perform(&mut self.sessions, &mut self.pending);
+        self.pending = Pending::Nothing;
     }
 
     /// The sessions are as they were at the last `commit`. It takes no memory.

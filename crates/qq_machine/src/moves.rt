@@ -29,6 +29,7 @@ impl Queue {
     }
 
     /// Puts a message at the back.
+    #[inline(always)]
     pub fn push_back(&mut self, row: ReadyRow) -> Result<(), Memory>
         ensures ok { OnOk result
             ((place : Place) → Becomes (push_back (item_at place row)) self.old self.new) }
@@ -75,6 +76,7 @@ impl Queue {
     }
 
     /// Puts a new message at the back.
+    #[inline(always)]
     pub fn arrive(&mut self, alloc: Global, index: Index, message: &Message) -> Result<(), Memory>
         ensures ok { OnOk result (Becomes (arrive index message.now) self.old self.new) }
         ensures base { KeepsBase self.old self.new }

@@ -16,6 +16,7 @@ use qq_entry::{Answer, Command, Delivery, Effect, Message, Mode, QueueArgs, Read
 use qq_rules::over;
 use qq_service::next;
 use std::alloc::Global;
+use std::mem;
 
 fn is_credited(answer: &Answer) -> bool
     ensures { result ≡ is_credited answer.now }
@@ -135,27 +136,27 @@ impl Draft {
         args: &QueueArgs,
         id: ConsumerId,
         wanted: bool,
-        answer: Answer,
-    ) -> Result<Answer, Memory>
-        requires { is_credited answer ≡ true → IsLinkAt id self.old.queue.consumers.roster.served }
+        answer: &mut Answer,
+    ) -> Result<(), Memory>
+        requires { is_credited answer.old ≡ true
+            → IsLinkAt id self.old.queue.consumers.roster.served }
 
-        ensures ok { IfOk result (Replies
-            (λ t. parts_drain id wanted (record { work = t; answer = answer }))
-            args.now self.old self.new) }
+        ensures ok { OnOk result (Replies
+            (λ t. parts_drain id wanted (record { work = t; answer = answer.old }))
+            args.now self.old self.new answer.new) }
         ensures base { KeepsBase self.old.queue self.new.queue }
         ensures want { IsOkUnless result Memory.Want }
     {
-        if !wanted || !is_credited(&answer) {
-            return Ok(answer);
+        if !wanted || !is_credited(answer) {
+            return Ok(());
         }
         let Some(row) = self.queue.consumers.row_of(id) else {
-            return Ok(answer);
+            return Ok(());
         };
         // A consumer with a prefetch is never answered `Credited`.
         let Mode::Link = row.consumer.mode else {
             unreachable!()
         };
-        drop(answer);
         if row
             .consumer
             .count
@@ -165,7 +166,8 @@ impl Draft {
             return Err(Memory::Want);
         }
         let drained = self.queue.consumers.drain(id)?;
-        Ok(Answer::Credited { drained })
+        drop(mem::replace(answer, Answer::Credited { drained }));
+        Ok(())
     }
 
     /// Leaves no credit after a Credit with drain.
@@ -174,13 +176,13 @@ impl Draft {
         &mut self,
         args: &QueueArgs,
         command: &Command,
-        answer: Answer,
-    ) -> Result<Answer, Memory>
-        requires { HasLinkFor command.now answer self.old.queue.consumers.roster.served }
+        answer: &mut Answer,
+    ) -> Result<(), Memory>
+        requires { HasLinkFor command.now answer.old self.old.queue.consumers.roster.served }
 
-        ensures ok { IfOk result (Replies
-            (λ t. parts_drain_after command.now (record { work = t; answer = answer }))
-            args.now self.old self.new) }
+        ensures ok { OnOk result (Replies
+            (λ t. parts_drain_after command.now (record { work = t; answer = answer.old }))
+            args.now self.old self.new answer.new) }
         ensures base { KeepsBase self.old.queue self.new.queue }
         ensures want { IsOkUnless result Memory.Want }
     {
@@ -191,7 +193,7 @@ impl Draft {
                 drain,
                 ..
             } => self.drain(args, stamp.consumer_id(*tag), *drain, answer),
-            _ => Ok(answer),
+            _ => Ok(()),
         }
     }
 

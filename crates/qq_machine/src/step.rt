@@ -34,13 +34,16 @@ impl Draft {
         ensures base { KeepsStamp self.old.queue self.new.queue }
         ensures want { IsOkUnless result Memory.Want }
     {
-        let answer = self.act(alloc, args, index, command)?;
+        let mut answer = self.act(alloc, args, index, command)?;
         if let Err(cause) = self.check_out_all(alloc, args) {
             drop(answer);
             return Err(cause);
         }
         // Checkouts come before limits: a message that a consumer waits for is delivered and not dropped.
-        let answer = self.drain_after(args, command, answer)?;
+        if let Err(cause) = self.drain_after(args, command, &mut answer) {
+            drop(answer);
+            return Err(cause);
+        }
         if let Err(cause) = self.keep_limits(args) {
             drop(answer);
             return Err(cause);

@@ -1,5 +1,5 @@
 -- How often kept answers name an index, and what is held of it while answers come and go.
-use Rattle.std.proofs.Common.{◌≡◌, ℕ, zero, suc, ◌+◌, ◌≤◌, ◌⊎◌, Bool, true, false, not, List, [], ◌∷◌, ◌++◌, Option, Some, None, take, drop, length, refl, sym, ap, ◌∙◌, subst, inl, inr, arith, if◌then◌else◌}
+use Rattle.std.proofs.Common.{◌≡◌, ℕ, zero, suc, ◌+◌, ◌-◌, ◌≤◌, ◌⊎◌, Bool, true, false, not, List, [], ◌∷◌, ◌++◌, Option, Some, None, take, drop, length, refl, sym, ap, ◌∙◌, subst, inl, inr, arith, if◌then◌else◌}
 use Rattle.std.specs.Prelude.{filter, slice_get, is_some}
 use Rattle.std.specs.List.{AllByRecursion}
 use Rattle.std.proofs.lemmas.Bool.{false≢true, cases_Bool, cond-true, cond-false, or_parts}
@@ -12,7 +12,7 @@ use Rattle.qq_base.specs.Ids.{same_session}
 use Rattle.qq_entry.specs.declared.answer.Answer.{Answer}
 use Rattle.qq_entry.specs.declared.command.Stamp.{Stamp}
 use Rattle.qq_model.specs.declared.session.OpenSession.{OpenSession}
-use Rattle.qq_model.specs.Gate.{session_of, is_open, change_session, add_answer, new_session}
+use Rattle.qq_model.specs.Gate.{session_of, is_open, change_session, next_mark, raise_mark, add_answer, new_session}
 use Rattle.qq_model.proofs.SessionLemmas.{same_session-true}
 use Rattle.qq_live.specs.Indices.{is_index, occurrences, Adds, Removes}
 use Rattle.qq_sessions.specs.Opened.{AreApart}
@@ -308,6 +308,42 @@ holds-done session f ones one n old new held apart found rest gone i =
     ∙ ap (occurrences i) (answers-append (take n one.kept) (drop n one.kept))
     ∙ occurrences-append i (answers_indices (take n one.kept)) (answers_indices (drop n one.kept)) in
     omega (arith, h, g, c, d, s)
+
+drops-few : (n : ℕ) (kept : List Answer) (i : ℕ)
+    → occurrences i (answers_indices (drop n kept)) ≤ occurrences i (answers_indices kept)
+drops-few n kept i =
+    let s = ap (λ (k : List Answer). occurrences i (answers_indices k)) (sym (take-append-drop n kept))
+    ∙ ap (occurrences i) (answers-append (take n kept) (drop n kept))
+    ∙ occurrences-append i (answers_indices (take n kept)) (answers_indices (drop n kept)) in
+    omega (arith, s)
+
+kept-few : (session : SessionId) (stamp : Stamp) (ones : List OpenSession) (i : ℕ)
+    → occurrences i (kept_indices (change_session session (raise_mark stamp) ones)) ≤ occurrences i (kept_indices ones)
+kept-few session stamp [] i = omega arith
+kept-few session stamp (o ∷ ones) i =
+    let rest = kept-few session stamp ones i in
+    let first = by (same_session o.session session) in
+    let a = occurrences-append i (answers_indices (if same_session o.session session then raise_mark stamp o else o).kept)
+    (kept_indices (change_session session (raise_mark stamp) ones)) in
+    let b = occurrences-append i (answers_indices o.kept) (kept_indices ones) in
+    omega (arith, rest, first, a, b)
+  where
+    by : (b : Bool) → occurrences i (answers_indices (if b then raise_mark stamp o else o).kept)
+        ≤ occurrences i (answers_indices o.kept)
+    by true = drops-few (next_mark stamp o - o.mark) o.kept i
+    by false = omega arith
+
+none-in : (i : ℕ) (xs : List Index) → length xs ≡ 0 → occurrences i xs ≡ 0
+none-in i [] none = refl
+none-in i (x ∷ xs) none = absurd (omega (arith, none))
+
+-- where no answer names a message, none is let go
+pub holds-unnamed : (session : SessionId) (stamp : Stamp) (ones : List OpenSession) (xs : List Index)
+    → HoldsKept xs ones → length xs ≡ 0 → HoldsKept xs (change_session session (raise_mark stamp) ones)
+holds-unnamed session stamp ones xs held none i =
+    let h = held i in
+    let few = kept-few session stamp ones i in
+    let z = none-in i xs none in omega (arith, h, few, z)
 
 -- an answer that names no message
 pub holds-plain : (session : SessionId) (answer : Answer) (ones : List OpenSession) (xs : List Index)

@@ -72,6 +72,7 @@ fn hold_answer(opened: &Opened, named: &mut Live, session: SessionId, answer: &A
 }
 
 // The answers up to a stamp's low mark are about to be forgotten.
+#[inline(always)]
 fn let_go_done(opened: &Opened, named: &mut Live, stamp: &Stamp)
     requires held { HoldsKept named.old.indices opened.now.rows }
 
@@ -79,6 +80,10 @@ fn let_go_done(opened: &Opened, named: &mut Live, stamp: &Stamp)
         (change_session stamp.now.session (raise_mark stamp.now) opened.now.rows) }
     ensures room { HasRoomFor 1 named.old → HasRoomFor 1 named.new }
 {
+    // Mostly no kept answer names a message.
+    if named.len() == 0 {
+        return;
+    }
     match opened.session_of(stamp.session) {
         None => {}
         Some(row) => let_go_first(named, &row.kept, done_count(stamp, row)),
@@ -174,11 +179,13 @@ impl OpenSessions {
         self.opened.is_open(session)
     }
 
-    /// Makes room for a session to be opened, or else for one more answer. After an error there may be
-    /// room for no session.
+    /// Makes room for a session to be opened, or else for one more answer. `Memory::Want` comes too where
+    /// the session's next number is at the end of 64 bits. After an error there may be room for no session.
+    #[inline(always)]
     pub fn reserve(&mut self, alloc: Global, session: SessionId) -> Result<(), Memory>
         ensures same { self.new.rows ≡ self.old.rows }
         ensures ok { OnOk result (self.new.room ≡ Some session) }
+        ensures count { OnOk result (next_by (session_of session self.new.rows) + 1 < 2 ^ 64) }
         ensures want { IsOkUnless result Memory.Want }
     {
         self.opened.give_up_room();
@@ -197,16 +204,19 @@ impl OpenSessions {
         self.opened.raise_mark(stamp);
     }
 
-    /// Uses a number of a session.
-    pub fn use_number(&mut self, stamp: &Stamp)
+    /// Uses a number of a session. False exactly where it isn't open; then nothing changes.
+    #[inline(always)]
+    pub fn use_number(&mut self, stamp: &Stamp) -> bool
         requires { next_by (session_of stamp.now.session self.old.rows) + 1 < 2 ^ 64 }
 
+        ensures value { result ≡ is_open stamp.now.session self.old.rows }
         ensures rows { self.new.rows
             ≡ change_session stamp.now.session (use_number stamp.now) self.old.rows }
+        ensures still { result ≡ false → self.new.rows ≡ self.old.rows }
         ensures room { self.new.room ≡ self.old.room }
     {
         let_go_done(&self.opened, &mut self.named, stamp);
-        self.opened.use_number(stamp);
+        self.opened.use_number(stamp)
     }
 
     /// Sets the greatest tag of a session's consumers.

@@ -129,20 +129,26 @@ impl Opened {
         find(&self.rows, self.near, session).is_some()
     }
 
-    /// Makes room for a session to be opened, or else for one more answer. After an error there may be
-    /// room for no session.
+    /// Makes room for a session to be opened, or else for one more answer. `Memory::Want` comes too where
+    /// the session's next number is at the end of 64 bits. After an error there may be room for no session.
+    #[inline(always)]
     pub fn reserve(&mut self, alloc: Global, session: SessionId) -> Result<(), Memory>
         ensures same { self.new.rows ≡ self.old.rows }
         ensures ok { OnOk result (self.new.room ≡ Some session) }
+        ensures count { OnOk result (next_by (session_of session self.new.rows) + 1 < 2 ^ 64) }
         ensures want { IsOkUnless result Memory.Want }
     {
         self.room = None;
         self.rows.reserve(1)?;
         hold_ready(alloc, &mut self.at_hand)?;
-        let Some((place, _)) = find(&self.rows, self.near, session) else {
+        let Some((place, row)) = find(&self.rows, self.near, session) else {
             self.room = Some(session);
             return Ok(());
         };
+        let fits = row.next < u64::MAX;
+        if !fits {
+            return Err(Memory::Want);
+        }
         self.near = place;
         let Some(row) = self.rows.get_index_mut(place) else {
             unreachable!()
@@ -175,21 +181,25 @@ impl Opened {
         raise_mark(row, stamp);
     }
 
-    /// Uses a number of a session.
-    pub fn use_number(&mut self, stamp: &Stamp)
+    /// Uses a number of a session. False exactly where it isn't open; then nothing changes.
+    #[inline(always)]
+    pub fn use_number(&mut self, stamp: &Stamp) -> bool
         requires { next_by (session_of stamp.now.session self.old.rows) + 1 < 2 ^ 64 }
 
+        ensures value { result ≡ is_open stamp.now.session self.old.rows }
         ensures rows { self.new.rows
             ≡ change_session stamp.now.session (use_number stamp.now) self.old.rows }
+        ensures still { result ≡ false → self.new.rows ≡ self.old.rows }
         ensures room { self.new.room ≡ self.old.room }
     {
         let Some((place, _)) = find(&self.rows, self.near, stamp.session) else {
-            return;
+            return false;
         };
         let Some(row) = self.rows.get_index_mut(place) else {
             unreachable!()
         };
         use_number(row, stamp);
+        true
     }
 
     /// Sets the greatest tag of a session's consumers.

@@ -134,6 +134,7 @@ impl Sessions {
         }
     }
 
+    #[inline(always)]
     fn is_ended(&self, session: SessionId) -> bool
         ensures { result ≡ is_ended self.now.known session }
     {
@@ -158,6 +159,7 @@ impl Sessions {
 
     /// What becomes of a stamped command. It takes memory only for an answer that is told again.
     #[tactic(auto, unfolding(qq_model::specs::Gate::gate))]
+    #[inline(always)]
     pub fn check(&self, alloc: Global, stamp: &Stamp) -> Result<Gate, Memory>
         ensures ok { IfOk result (λ passed. passed ≡ gate self.now.known stamp.now) }
         ensures want { IsOkUnless result Memory.Want }
@@ -174,27 +176,16 @@ impl Sessions {
         }
     }
 
-    fn can_count(&self, session: SessionId) -> bool
-        ensures { OnTrue result (CanCount session self.now.known) }
-    {
-        if self.seen == u64::MAX {
-            return false;
-        }
-        match self.opened.session_of(session) {
-            None => true,
-            Some(row) => row.next < u64::MAX,
-        }
-    }
-
     /// Makes room for the next admission, answer and end of a session. `Memory::Want` comes too where a
     /// number of the session is at the end of 64 bits. After an error there may be room for less than before.
+    #[inline(always)]
     pub fn reserve(&mut self, alloc: Global, session: SessionId) -> Result<(), Memory>
         ensures same { self.new.known ≡ self.old.known }
         ensures room { OnOk result (HasRoomFor session self.new.room) }
         ensures counts { OnOk result (CanCount session self.new.known) }
         ensures want { IsOkUnless result Memory.Want }
     {
-        if !self.can_count(session) {
+        if self.seen == u64::MAX {
             return Err(Memory::Want);
         }
         self.ended.reserve()?;
@@ -245,6 +236,7 @@ impl Sessions {
     /// Uses the number of a command that has passed the gate. There has to be room. The room for its
     /// answer stays, and that for an end.
     #[tactic(auto, unfolding(qq_model::specs::Gate::admit))]
+    #[inline(always)]
     pub fn admit(&mut self, stamp: &Stamp)
         requires room { HasRoomFor stamp.now.session self.old.room }
         requires counts { CanCount stamp.now.session self.old.known }
@@ -256,8 +248,7 @@ impl Sessions {
         if stamp.session.class == DEAD_LETTER {
             return;
         }
-        if self.opened.is_open(stamp.session) {
-            self.opened.use_number(stamp);
+        if self.opened.use_number(stamp) {
             return;
         }
         self.open_session(stamp);
@@ -265,6 +256,7 @@ impl Sessions {
 
     /// Keeps the answer of a command that has passed the gate. There has to be room.
     #[tactic(auto, unfolding(qq_model::specs::Gate::keep_answer))]
+    #[inline(always)]
     pub fn keep(&mut self, stamp: &Stamp, answer: Answer)
         requires { self.old.room.session ≡ Some stamp.now.session }
 

@@ -158,6 +158,7 @@ impl<T: Drop> UndoDeque<T> {
     }
 
     /// Puts an item behind all others.
+    #[inline(always)]
     pub fn push_back(&mut self, item: T) -> Result<(), Memory>
         ensures items { OnOk result (self.new.items ≡ self.old.items ++ item ∷ []) }
         ensures err { OnErr result (self.new.items ≡ self.old.items) }

@@ -1,8 +1,13 @@
-use Rattle.std.proofs.Common.{ℕ, drop, sym, ap}
+use Rattle.std.proofs.Common.{ℕ, drop, sym, ap, ◌∙◌}
 use Rattle.qq_model.specs.Gate.{raise_mark}
 use Rattle.qq_sessions.specs.Row.{open_of}
-use Rattle.qq_sessions.proofs.Holders.{holds-absent, holds-done}
+use Rattle.qq_sessions.proofs.Holders.{holds-absent, holds-done, holds-unnamed}
 use Rattle.qq_sessions.proofs.open_sessions.let_go_done.Goals as goal
+
+pub returns-then-len-eq0-clause-held : goal.returns-then-len-eq0-clause-held
+returns-then-len-eq0-clause-held c =
+    holds-unnamed c.args.stamp.now.session c.args.stamp.now c.args.opened.now.rows c.args.named.now.indices
+    c.requires.held (sym c.len.ensures ∙ c.if-len-eq0.true)
 
 pub returns-in-None-clause-held : goal.returns-in-None-clause-held
 returns-in-None-clause-held c =

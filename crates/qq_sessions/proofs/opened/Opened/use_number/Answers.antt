@@ -2,10 +2,10 @@ use Rattle.std.proofs.Common.{◌≡◌, ◌+◌, ◌<◌, ◌^◌, Option, sym,
 use Rattle.std.specs.Option.{option_map}
 use Rattle.std.proofs.lemmas.Bool.{false≢true}
 use Rattle.std.proofs.lemmas.Option.{slice_get_within}
-use Rattle.qq_model.specs.Gate.{session_of, change_session, use_number}
+use Rattle.qq_model.specs.Gate.{session_of, is_open, change_session, use_number}
 use Rattle.qq_model.specs.declared.session.OpenSession.{OpenSession}
 use Rattle.qq_sessions.specs.Opened.{OpenedState}
-use Rattle.qq_sessions.proofs.OpenRows.{at-found, place-held, place-changes, unchanged-absent, session_of-lookup}
+use Rattle.qq_sessions.proofs.OpenRows.{at-found, place-held, place-changes, unchanged-absent, session_of-lookup, is_open-lookup}
 use Rattle.qq_sessions.specs.Row.{open_of}
 use Rattle.qq_sessions.specs.Known.{next_by}
 use Rattle.qq_sessions.proofs.opened.Opened.use_number.Goals as goal
@@ -19,6 +19,18 @@ invariant_of-self c =
           (ap (λ (o : OpenSession). o.session) c.use_number.ensures.ok) c.use_number.ensures.slots,
       c.self.invariant.1,
     )
+
+pub returns-clause-value : goal.returns-clause-value
+returns-clause-value c =
+    ap is_some c.in-Some.ensures.row
+    ∙ is_open-lookup c.args.stamp.now.session c.self.inside.rows.entries c.self.invariant.0.ids
+    ∙ ap (λ (o : OpenedState). is_open c.args.stamp.now.session o.rows) c.self.view_is
+
+pub returns-in_default-clause-value : goal.returns-in_default-clause-value
+returns-in_default-clause-value c =
+    ap is_some c.in_default.ensures.row
+    ∙ is_open-lookup c.args.stamp.now.session c.self.inside.rows.entries c.self.invariant.0.ids
+    ∙ ap (λ (o : OpenedState). is_open c.args.stamp.now.session o.rows) c.self.view_is
 
 pub returns-clause-rows : goal.returns-clause-rows
 returns-clause-rows c =
