@@ -38,7 +38,7 @@ fn time_targets(rt: HostRuntime, routes: &Routes, exchange: &str, keys: &[Text])
     let start = Instant::now(&rt)?;
     for _ in 0..ROUNDS {
         for key in keys {
-            count += routes.targets(rt.alloc(), &name, key)?.len();
+            count += routes.targets(rt.alloc(), &name, key)?.as_slice().len();
         }
     }
     let spent = start.elapsed(&rt)?.as_nanos();

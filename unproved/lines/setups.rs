@@ -182,7 +182,7 @@ impl<'a> Setups<'a> {
             Err(RouteFault::Memory(fault)) => return Err(fault).context("routes"),
         };
         let mut text = String::new(alloc);
-        for queue in &queues {
+        for queue in queues.as_slice() {
             write!(
                 text,
                 "{}{}",
@@ -190,7 +190,7 @@ impl<'a> Setups<'a> {
                 queue.0
             )?;
         }
-        if queues.is_empty() {
+        if queues.as_slice().is_empty() {
             text.push_str("none")?;
         }
         Ok(text)

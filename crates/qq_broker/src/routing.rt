@@ -2,6 +2,7 @@
 ghost use Rattle.std.specs.Prelude.{◌≡◌, IfOk, IsOkUnless, map};
 ghost use Rattle.std.specs.Str.{IsUtf8};
 ghost use Rattle.qq_base.specs.declared.ids.QueueId.{QueueId as Id};
+ghost use Rattle.qq_route.specs.Destinations.{listed};
 ghost use Rattle.qq_setup.specs.Setup.{state_of};
 ghost use Rattle.qq_cluster.specs.Lines.{publish_with};
 ghost use Rattle.qq_cluster_queue.specs.Range.{MayStamp};
@@ -10,9 +11,9 @@ ghost use Rattle.qq_cluster_run.specs.Setup.{places_for};
 ghost use Rattle.qq_broker.specs.Nodes.{MayRun};
 ghost use Rattle.qq_broker.specs.Serving.{AreThere};
 
-use qq_base::{Bytes, Memory, QueueId, Text};
+use qq_base::{Bytes, Memory, Text};
 use qq_entry::{Content, Deaths, Message, Unstamped};
-use qq_route::RouteFault;
+use qq_route::{Destinations, RouteFault};
 use qq_setup::Setup;
 use std::alloc::Global;
 
@@ -49,16 +50,16 @@ pub fn targets(
     setup: &Setup,
     exchange: &Text,
     key: &Text,
-) -> Result<Vec<QueueId>, Memory>
+) -> Result<Destinations, Memory>
     requires { MayRun setup.now }
-    ensures ok { IfOk result (λ queues. map (λ (queue : Id). queue.0) queues.items
+    ensures ok { IfOk result (λ queues. map (λ (queue : Id). queue.0) (listed queues)
         ≡ places_for (state_of setup.now).table exchange.now key.now) }
-    ensures there { IfOk result (λ queues. AreThere setup.now queues.items) }
+    ensures there { IfOk result (λ queues. AreThere setup.now (listed queues)) }
     ensures want { IsOkUnless result Memory.Want }
 {
     match setup.routes.targets(alloc, exchange, key) {
         Ok(queues) => Ok(queues),
-        Err(RouteFault::NoExchange) => Ok(Vec::new(alloc)),
+        Err(RouteFault::NoExchange) => Ok(Destinations::new(alloc)),
         Err(RouteFault::Memory(memory)) => Err(memory),
     }
 }

@@ -23,3 +23,4 @@ mod Refusing
 pub mod Fetched
 pub mod Asking
 mod Leading
+mod Learning

@@ -4,6 +4,8 @@ use Rattle.std.specs.Prelude.{ℕ, List, Bool, true, false, is_some, unwrap_or, 
 use Rattle.std.specs.Map.{lookup}
 use Rattle.qq_base.specs.Ids.{client}
 use Rattle.qq_base.specs.declared.ids.QueueId.{QueueId}
+use Rattle.qq_entry.specs.declared.command.Unstamped.{Unstamped}
+use Rattle.qq_entry.specs.declared.command.Unstamped.TheVariants.{Subscribe}
 use Rattle.qq_session.specs.Publishing.{Numbers, new_numbers}
 use Rattle.qq_session.specs.Clients.{Client, Clients}
 use Rattle.qq_cluster_queue.specs.declared.sessions.Standing.{Standing}
@@ -58,3 +60,8 @@ clients_of standing numbers = λ session. let c : Client = record {
   muted = (standing session).muted;
   ended = (standing session).ended;
 } in c
+
+-- a command from which on its session knows a consumer
+abbrev pub subscribes : Unstamped → Bool
+subscribes (Subscribe tag mode) = true
+subscribes _ = false

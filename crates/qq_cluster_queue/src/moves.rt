@@ -1,18 +1,20 @@
 //! What happens to the group of the queue's members.
-ghost use Rattle.std.specs.Prelude.{◌≡◌, None, false, is_some, true, IfOk, IfErr, OnOk, OnErr, slice_get};
+ghost use Rattle.std.specs.Prelude.{◌≡◌, ◌∷◌, [], None, false, is_some, true, IfOk, IfErr, OnOk, OnErr, slice_get};
 ghost use Rattle.qq_group.specs.Follows.{OthersStay};
 ghost use Rattle.qq_group.specs.Group.{server_at};
 ghost use Rattle.qq_group.specs.Restarts.{is_known, Finds as FindsLog, IsFound, IsRestartCaused, Restarts};
 ghost use Rattle.qq_group.specs.Steps.{MayHappen};
+ghost use Rattle.qq_group.specs.declared.event.Event.TheVariants as events;
 ghost use Rattle.qq_log.specs.Stable.{no_snapshot};
 ghost use Rattle.qq_raft_core.specs.Raft.{IsWithinEnds};
 ghost use Rattle.qq_raft_model.specs.Group.{has_node, may_restart, happens, Group as GroupState};
-ghost use Rattle.qq_raft_model.specs.Group.Event.{Restart};
+ghost use Rattle.qq_raft_model.specs.Group.Event.{Restart, Submit};
 ghost use Rattle.qq_raft_msg.specs.Rpc.{IsNode};
+ghost use Rattle.qq_cluster_queue.specs.Range.{HasBytes};
 ghost use Rattle.qq_cluster_queue.specs.Members.{moves_of, own_log, AreSound, IsGroupOf, IsStepCaused, Makes, Tells};
 
 use qq_base::{Duplicate, Memory, NodeId};
-use qq_entry::QueueArgs;
+use qq_entry::{Command, QueueArgs};
 use qq_group::{
     Event, Group, RestartFault, Shown, events_reach_groups, what_is_committed_stays_in_the_audit,
 };
@@ -28,6 +30,7 @@ pub type Members = Group<MachineQueue, Log>;
 
 /// An event happens. After an error the member that it reached has crashed, a message that reached it is lost,
 /// and nothing else has changed.
+#[inline(always)]
 pub fn happen(alloc: Global, group: &mut Members, event: Event) -> Result<Shown, Memory>
     requires sound { AreSound group.old }
     requires event { MayHappen event }
@@ -46,6 +49,38 @@ pub fn happen(alloc: Global, group: &mut Members, event: Event) -> Result<Shown,
     a_message_always_fits::<MachineQueue, Log>();
     events_reach_groups();
     match group.step(alloc, event) {
+        Ok(shown) => Ok(shown),
+        Err(cause) => Err(cause),
+    }
+}
+
+/// A client's command reaches a member, at time 0. After an error the member has crashed, and nothing else has
+/// changed.
+#[inline(always)]
+pub fn submit(
+    alloc: Global,
+    group: &mut Members,
+    node: NodeId,
+    command: Command,
+) -> Result<Shown, Memory>
+    requires sound { AreSound group.old }
+    requires bytes { HasBytes command }
+
+    ensures sound { AreSound group.new }
+    ensures nodes { group.new.nodes ≡ group.old.nodes }
+    ensures ok { OnOk result (Makes (Submit node.0 0 command ∷ []) group.old group.new) }
+    ensures tells { IfOk result (λ shown.
+        Tells (events.Submit node 0 command) group.old shown.rows.items) }
+    ensures err { OnErr result (group.new.audit.items ≡ group.old.audit.items) }
+    ensures cause { IfErr result (IsStepCaused (events.Submit node 0 command) group.old) }
+{
+    each_row_is_of_the_audit::<MachineQueue, Log>();
+    what_is_committed_stays_in_the_audit::<MachineQueue, Log>();
+    what_a_group_committed_stays();
+    what_is_applied_is_committed::<MachineQueue>();
+    a_message_always_fits::<MachineQueue, Log>();
+    events_reach_groups();
+    match group.submit(alloc, node, 0, command) {
         Ok(shown) => Ok(shown),
         Err(cause) => Err(cause),
     }

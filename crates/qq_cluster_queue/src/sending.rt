@@ -10,23 +10,29 @@ ghost use Rattle.qq_consuming.specs.Consumers.{know_by};
 ghost use Rattle.qq_session.specs.Clients.{may_hand};
 ghost use Rattle.qq_session.specs.Shown.{WindowFull, said_of};
 ghost use Rattle.qq_cluster_queue.specs.ClusterQueue.{DoesAlways, IsOfferCaused, IsResendCaused, IsSameQueue, IsSubmitCaused, OfItsQueue};
-ghost use Rattle.qq_cluster_queue.specs.Sessions.{numbers_of};
+ghost use Rattle.qq_cluster_queue.specs.Sessions.{numbers_of, subscribes};
 ghost use Rattle.qq_cluster_queue.specs.Members.{AreSound, Makes, number_of, own_log};
 ghost use Rattle.qq_cluster_queue.specs.Range.{HasBytes, MayStamp};
 ghost use Rattle.qq_cluster_queue.specs.Telling.{show, show_all};
 
 use crate::cluster_queue::ClusterQueue;
-use crate::moves::happen;
+use crate::moves::submit;
 use crate::publishers::Publishers;
 use crate::told::Told;
 use qq_base::{Memory, NodeId, SessionId};
 use qq_consuming::Consumers;
 use qq_entry::{Command, Unstamped};
-use qq_group::Event;
 use qq_session::HandFault;
 use qq_taker::Taker;
 use std::alloc::Global;
 use std::collections::VecDeque;
+
+// Whether its session knows a consumer from it on.
+fn subscribes(body: &Unstamped) -> bool
+    ensures { result ≡ subscribes body.now }
+{
+    matches!(body, Unstamped::Subscribe { .. })
+}
 
 // A session knows a consumer from its first subscription on that gets a number.
 fn learn(
@@ -40,6 +46,11 @@ fn learn(
         then know_by (client session) body.now consumers.old else consumers.old)) }
     ensures want { IsOkUnless result Memory.Want }
 {
+    // Most commands are none, so that their session needn't be looked up.
+    let subscribes = subscribes(body);
+    if !subscribes {
+        return Ok(());
+    }
     let room = publishers.may_hand(session);
     if !room {
         return Ok(());
@@ -52,6 +63,7 @@ fn learn(
 
 impl ClusterQueue {
     // A command goes to the leader, at time 0; where there is none the session is told so.
+    #[inline(always)]
     fn offer<T: Taker>(
         &mut self,
         alloc: Global,
@@ -77,12 +89,7 @@ impl ClusterQueue {
         let Some(node) = leader else {
             return told.no_leader(alloc, &self.label, session);
         };
-        let event = Event::Submit {
-            node,
-            time: 0,
-            command,
-        };
-        if let Err(cause) = happen(alloc, &mut self.group, event) {
+        if let Err(cause) = submit(alloc, &mut self.group, node, command) {
             return Err(cause);
         }
         Ok(())

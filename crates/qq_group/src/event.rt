@@ -73,6 +73,7 @@ impl Shown {
 impl<Q: Queue, L: LogView> Group<Q, L> {
     /// An event happens. After an error the member that it reached has crashed, a message that reached it is
     /// lost, and nothing else has changed.
+    #[inline(always)]
     pub fn step(&mut self, alloc: Global, event: Event) -> Result<Shown, Memory>
         requires sound { IsSound Q.stands L.log Q.applied self.old }
         requires event { MayHappen event }

@@ -49,6 +49,7 @@ impl<Q: Queue, L: LogView> Group<Q, L> {
 
     /// A client's command reaches a member at this time: a ready leader adds it to its log and sends it.
     /// After an error the member has crashed, and nothing else has changed.
+    #[inline(always)]
     pub fn submit(
         &mut self,
         alloc: Global,

@@ -88,6 +88,7 @@ fn settle<Q: Queue, L: LogView>(
 
 /// An input reaches a server. After an error bag and audit are as they were, and what is left of the server
 /// leads back to what its log was to hold.
+#[inline(always)]
 fn feed_server<Q: Queue, L: LogView>(
     alloc: Global,
     server: &mut Server<Q, L>,
@@ -170,6 +171,7 @@ impl<Q: Queue, L: LogView> Seat<Q, L> {
 impl<Q: Queue, L: LogView> Group<Q, L> {
     /// An input reaches the server of a member that is up. After an error the member has crashed, and nothing
     /// else has changed.
+    #[inline(always)]
     fn feed_seat(&mut self, alloc: Global, node: NodeId, input: Input) -> Result<Shown, Memory>
         requires sound { IsSound Q.stands L.log Q.applied self.old }
         requires there { node.0 < length self.old.seats.items }
@@ -196,6 +198,7 @@ impl<Q: Queue, L: LogView> Group<Q, L> {
 
     /// An input reaches a member's server, if it is up. What it sends goes into the bag, and what it knows to
     /// be committed into the audit. After an error the member has crashed, and nothing else has changed.
+    #[inline(always)]
     pub(crate) fn feed(
         &mut self,
         alloc: Global,

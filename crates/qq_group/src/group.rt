@@ -41,7 +41,7 @@ pub(crate) fn take_rows<Q: Queue, L: LogView>(
     ensures same { server.new ≡ record server.old { rows = server.new.rows } }
     ensures want { IsOkUnless result Memory.Want }
 {
-    let mut rows = Vec::new(alloc);
+    let mut rows = Vec::with_capacity(alloc, server.row_count())?;
     'rows: while let Some(row) = server.next_row() {
         rows.push(row)?;
     }

@@ -31,6 +31,7 @@ pub(crate) enum Input {
 }
 
 /// What an input makes of a server.
+#[inline(always)]
 pub(crate) fn act<Q: Queue, L: LogView>(
     alloc: Global,
     server: &mut Server<Q, L>,
@@ -55,12 +56,12 @@ pub(crate) fn act<Q: Queue, L: LogView>(
             Ok(()) => Ok(Outcome::Done),
             Err(cause) => Err(cause),
         },
-        Input::Submit { time, command } => match server.submit(alloc, time, &command) {
+        Input::Submit { time, command } => match server.submit(alloc, time, command) {
             Ok(_) => Ok(Outcome::Done),
             Err(SubmitFault::NotLeader { hint }) => Ok(Outcome::NotLeader { hint }),
             Err(SubmitFault::Memory(cause)) => Err(cause),
         },
-        Input::Add { time, command } => match server.add(alloc, time, &command) {
+        Input::Add { time, command } => match server.add(alloc, time, command) {
             Ok(_) => Ok(Outcome::Done),
             Err(SubmitFault::NotLeader { hint }) => Ok(Outcome::NotLeader { hint }),
             Err(SubmitFault::Memory(cause)) => Err(cause),

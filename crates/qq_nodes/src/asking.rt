@@ -43,6 +43,7 @@ pub(crate) enum Ask {
     Copy { message: u32 },
 }
 
+#[inline(always)]
 fn ask_queue<T: Taker>(
     queue: &mut ClusterQueue,
     alloc: Global,
@@ -82,6 +83,7 @@ fn ask_queue<T: Taker>(
 }
 
 /// The queue at an index does what is asked of it.
+#[inline(always)]
 pub(crate) fn ask_at<T: Taker>(
     queues: &mut [ClusterQueue],
     alloc: Global,
@@ -101,6 +103,7 @@ pub(crate) fn ask_at<T: Taker>(
 }
 
 /// The same of all of them.
+#[inline(always)]
 pub(crate) fn ask_in<T: Taker>(
     queues: &mut Vec<ClusterQueue>,
     alloc: Global,

@@ -31,6 +31,7 @@ impl<D: NodeDisk> Nodes<D> {
 
     // A session gives a command at a queue that is active, or is told that it has ended, or that a delivery of the
     // command wasn't handed out.
+    #[inline(always)]
     pub(crate) fn give_active<T: Taker>(
         &mut self,
         alloc: Global,

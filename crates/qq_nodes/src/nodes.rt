@@ -132,6 +132,7 @@ impl<D: NodeDisk> Nodes<D> {
     }
 
     // A queue that is active does what is asked of it.
+    #[inline(always)]
     pub(crate) fn ask_active<T: Taker>(
         &mut self,
         alloc: Global,

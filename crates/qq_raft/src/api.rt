@@ -117,13 +117,13 @@ impl<Q: Queue, L: LogView> Server<Q, L> {
         &mut self,
         alloc: Global,
         time: u64,
-        command: &Command,
+        command: Command,
     ) -> Result<Index, SubmitFault>
         requires sound { IsSound L.log Q.applied self.old }
-        requires command { IsCommand command.now × HasContent command.now }
+        requires command { IsCommand command × HasContent command }
 
         ensures sound { OnOk result (IsSound L.log Q.applied self.new) }
-        ensures ok { OnOk result (Does Q.stands L.log (submit time command.now) self.old self.new) }
+        ensures ok { OnOk result (Does Q.stands L.log (submit time command) self.old self.new) }
         ensures index { IfOk result (λ index. IsAdded (server_of L.log self.old.raft) index) }
         ensures err { IfErr result (IsLeftBy L.log self.old self.new) }
         ensures back { LeadsBack L.log self.old.raft self.new.raft }
@@ -131,6 +131,7 @@ impl<Q: Queue, L: LogView> Server<Q, L> {
     {
         if !self.raft.ready() {
             let hint = self.raft.leader();
+            drop(command);
             return Err(SubmitFault::NotLeader { hint });
         }
         let index = Index(self.raft.state().last.0 + 1);
@@ -143,12 +144,12 @@ impl<Q: Queue, L: LogView> Server<Q, L> {
 
     /// A ready leader adds an entry for a command, at this time, which isn't sent before the next `flush`: its
     /// index. All else is as with `submit`.
-    pub fn add(&mut self, alloc: Global, time: u64, command: &Command) -> Result<Index, SubmitFault>
+    pub fn add(&mut self, alloc: Global, time: u64, command: Command) -> Result<Index, SubmitFault>
         requires sound { IsSound L.log Q.applied self.old }
-        requires command { IsCommand command.now × HasContent command.now }
+        requires command { IsCommand command × HasContent command }
 
         ensures sound { OnOk result (IsSound L.log Q.applied self.new) }
-        ensures ok { OnOk result (Does Q.stands L.log (add time command.now) self.old self.new) }
+        ensures ok { OnOk result (Does Q.stands L.log (add time command) self.old self.new) }
         ensures index { IfOk result (λ index. IsAdded (server_of L.log self.old.raft) index) }
         ensures err { IfErr result (IsLeftBy L.log self.old self.new) }
         ensures back { LeadsBack L.log self.old.raft self.new.raft }
@@ -156,6 +157,7 @@ impl<Q: Queue, L: LogView> Server<Q, L> {
     {
         if !self.raft.ready() {
             let hint = self.raft.leader();
+            drop(command);
             return Err(SubmitFault::NotLeader { hint });
         }
         let index = Index(self.raft.state().last.0 + 1);
@@ -343,6 +345,13 @@ impl<Q: Queue, L: LogView> Server<Q, L> {
             ≡ record self.old { raft = record self.old.raft { out = self.new.raft.out } } }
     {
         self.raft.next_rpc()
+    }
+
+    /// How many rows are to be taken away.
+    pub fn row_count(&self) -> usize
+        ensures { result ≡ length self.now.rows.items }
+    {
+        self.rows.len()
     }
 
     /// The next row that a ready leader of its term shows, with its effects, in the order of the entries.

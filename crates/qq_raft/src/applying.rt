@@ -38,6 +38,7 @@ fn row_of(
 }
 
 /// Keeps the row of an entry where it is to be shown.
+#[inline(always)]
 fn keep_row(
     alloc: Global,
     rows: &mut VecDeque<AppliedRow>,

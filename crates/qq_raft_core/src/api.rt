@@ -154,13 +154,13 @@ impl<L: LogView> Raft<L> {
     /// A ready leader adds an entry of its term for a command, at this time, and sends it to all others. Any
     /// other server stays as it is. After an error it hands nothing out. `Spent` comes only where a number
     /// stands at its end.
-    pub fn submit(&mut self, alloc: Global, time: u64, command: &Command) -> Result<(), Memory>
+    pub fn submit(&mut self, alloc: Global, time: u64, command: Command) -> Result<(), Memory>
         requires sound { IsSound L.log self.old }
-        requires command { IsCommand command.now × HasContent command.now }
+        requires command { IsCommand command × HasContent command }
 
         ensures sound { OnOk result (IsSound L.log self.new) }
         ensures ok { OnOk result (server_of L.log self.new
-            ≡ submit time command.now (server_of L.log self.old)) }
+            ≡ submit time command (server_of L.log self.old)) }
         ensures err { OnErr result (HandsNothingOut (server_of L.log self.new)) }
         ensures back { LeadsBack L.log self.old self.new }
         ensures cause { IfErr result (IsCaused (server_of L.log self.old)) }
@@ -176,13 +176,13 @@ impl<L: LogView> Raft<L> {
     /// A ready leader adds an entry of its term for a command, at this time, which isn't sent before the next
     /// `flush`. Any other server stays as it is. After an error it hands nothing out. `Spent` comes only where
     /// a number stands at its end.
-    pub fn add(&mut self, alloc: Global, time: u64, command: &Command) -> Result<(), Memory>
+    pub fn add(&mut self, alloc: Global, time: u64, command: Command) -> Result<(), Memory>
         requires sound { IsSound L.log self.old }
-        requires command { IsCommand command.now × HasContent command.now }
+        requires command { IsCommand command × HasContent command }
 
         ensures sound { OnOk result (IsSound L.log self.new) }
         ensures ok { OnOk result (server_of L.log self.new
-            ≡ add time command.now (server_of L.log self.old)) }
+            ≡ add time command (server_of L.log self.old)) }
         ensures err { OnErr result (HandsNothingOut (server_of L.log self.new)) }
         ensures back { LeadsBack L.log self.old self.new }
         ensures cause { IfErr result (IsCaused (server_of L.log self.old)) }

@@ -10,7 +10,7 @@ ghost use Rattle.qq_raft_core.specs.Raft.{server_of, IsSound, IsInLog, IsWaiting
 use crate::batch::term_at;
 use crate::peers::{PeerChange, Target, change_peers, greater};
 use crate::raft::{Raft, push_rpc};
-use qq_base::{Duplicate, Memory};
+use qq_base::Memory;
 use qq_entry::{Command, Entry, Shared};
 use qq_raft_model::Waiting;
 use qq_raft_msg::{LogView, Role, Rpc};
@@ -74,13 +74,14 @@ impl<L: LogView> Raft<L> {
     }
 
     #[tactic(auto, using(crate::proofs::Ranges::entry_in_log))]
-    fn entry_for(&self, alloc: Global, time: u64, command: &Command) -> Result<Entry, Memory>
+    #[inline(always)]
+    fn entry_for(&self, alloc: Global, time: u64, command: Command) -> Result<Entry, Memory>
         requires sound { IsSound L.log self.now }
-        requires command { IsCommand command.now × HasContent command.now }
+        requires command { IsCommand command × HasContent command }
         ensures ok { IfOk result (λ e. e ≡ record {
           term = self.now.term;
           time = time;
-          command = command.now;
+          command = command;
         }) }
         ensures entry { IfOk result IsInLog }
         ensures want { IsOkUnless result Memory.Want }
@@ -88,7 +89,7 @@ impl<L: LogView> Raft<L> {
         Ok(Entry {
             term: self.term,
             time,
-            command: Shared::new(alloc, command.copy(alloc)?)?,
+            command: Shared::new(alloc, command)?,
         })
     }
 
@@ -98,17 +99,18 @@ impl<L: LogView> Raft<L> {
         &mut self,
         alloc: Global,
         time: u64,
-        command: &Command,
+        command: Command,
     ) -> Result<(), Memory>
         requires sound { IsSound L.log self.old }
-        requires command { IsCommand command.now × HasContent command.now }
+        requires command { IsCommand command × HasContent command }
         ensures sound { OnOk result (IsSound L.log self.new) }
         ensures ok { OnOk result (server_of L.log self.new
-            ≡ submit time command.now (server_of L.log self.old)) }
+            ≡ submit time command (server_of L.log self.old)) }
         ensures before { before L.log self.new ≡ before L.log self.old }
         ensures cause { IfErr result (IsCaused (server_of L.log self.old)) }
     {
         if !self.is_ready() {
+            drop(command);
             return Ok(());
         }
         let entry = self.entry_for(alloc, time, command)?;
@@ -121,17 +123,18 @@ impl<L: LogView> Raft<L> {
         &mut self,
         alloc: Global,
         time: u64,
-        command: &Command,
+        command: Command,
     ) -> Result<(), Memory>
         requires sound { IsSound L.log self.old }
-        requires command { IsCommand command.now × HasContent command.now }
+        requires command { IsCommand command × HasContent command }
         ensures sound { OnOk result (IsSound L.log self.new) }
         ensures ok { OnOk result (server_of L.log self.new
-            ≡ add time command.now (server_of L.log self.old)) }
+            ≡ add time command (server_of L.log self.old)) }
         ensures before { before L.log self.new ≡ before L.log self.old }
         ensures cause { IfErr result (IsCaused (server_of L.log self.old)) }
     {
         if !self.is_ready() {
+            drop(command);
             return Ok(());
         }
         let entry = self.entry_for(alloc, time, command)?;

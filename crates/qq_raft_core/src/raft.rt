@@ -153,6 +153,7 @@ fn change_op(
     }
 }
 
+#[inline(always)]
 fn push_undo(undos: &mut Vec<Undo>, undo: Undo) -> Result<(), Memory>
     ensures ok { OnOk result (undos.new.items ≡ undos.old.items ++ undo ∷ []) }
     ensures err { OnErr result (undos.new.items ≡ undos.old.items) }
@@ -163,6 +164,7 @@ fn push_undo(undos: &mut Vec<Undo>, undo: Undo) -> Result<(), Memory>
 }
 
 #[tactic(auto, using(crate::proofs::Ranges::all_more))]
+#[inline(always)]
 fn push_op(ops: &mut VecDeque<Op>, op: Op) -> Result<(), Memory>
     requires ops { All MayWrite ops.old.items }
     requires op { MayWrite op }
@@ -245,6 +247,7 @@ impl<L: LogView> Raft<L> {
 
     /// Hands a change out and works on it at once.
     #[tactic(auto, unfolding(qq_raft_model::specs::State::change))]
+    #[inline(always)]
     pub(crate) fn change(
         &mut self,
         alloc: Global,

@@ -42,6 +42,10 @@ pub(crate) fn drop_front(undos: &mut Vec<Undo>, count: usize)
     requires { count ≤ length undos.old.items }
     ensures { undos.new.items ≡ drop count undos.old.items }
 {
+    // A call that isn't of the log's disk, as that of a client's command, gives up none.
+    if count == 0 {
+        return;
+    }
     undos.drain(..count);
 }
 

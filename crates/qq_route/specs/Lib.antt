@@ -1,3 +1,4 @@
+pub mod Destinations
 pub mod Fault
 pub mod Index
 pub mod Routes

@@ -1,8 +1,10 @@
 ghost use Rattle.std.specs.Prelude.{◌≡◌, ◌++◌, ◌∷◌, [], map, filter, ℕ, List, IfOk, OnOk, OnErr, IsOkUnless};
 ghost use Rattle.qq_route.specs.declared.exchange.ExchangeKind.TheVariants.{Topic};
+ghost use Rattle.qq_route.specs.Destinations.{listed};
 ghost use Rattle.qq_route.specs.Index.{index_of, with_queue};
 ghost use Rattle.qq_route.specs.Routes.{is_named, takes};
 
+use crate::destinations::Destinations;
 use crate::topic::topic_matches;
 use qq_base::{Duplicate, Memory, QueueId, Text};
 use std::alloc::Global;
@@ -102,8 +104,8 @@ impl Exchange {
     }
 
     /// The queues to which a message with this key comes, in the order of the bindings.
-    pub fn bound(&self, alloc: Global, key: &Text) -> Result<Vec<QueueId>, Memory>
-        ensures ok { IfOk result (λ queues. queues.items
+    pub fn bound(&self, alloc: Global, key: &Text) -> Result<Destinations, Memory>
+        ensures ok { IfOk result (λ queues. listed queues
             ≡ map (λ b. b.queue)
             (filter (λ b. takes self.now.kind b.key key.now) self.now.bindings)) }
         ensures want { IsOkUnless result Memory.Want }
@@ -140,29 +142,29 @@ fn is_bound_under(index: &Index, key: &str, queue: QueueId) -> bool
     }
 }
 
-fn bound_under(alloc: Global, index: &Index, key: &str) -> Result<Vec<QueueId>, Memory>
-    ensures ok { IfOk result (λ queues. queues.items ≡ index_of index.now key.now) }
+fn bound_under(alloc: Global, index: &Index, key: &str) -> Result<Destinations, Memory>
+    ensures ok { IfOk result (λ queues. listed queues ≡ index_of index.now key.now) }
     ensures want { IsOkUnless result Memory.Want }
 {
     match index.get(key) {
-        Some(queues) => Ok(Vec::from_slice(alloc, queues)?),
-        None => Ok(Vec::new(alloc)),
+        Some(queues) => Destinations::from_slice(alloc, queues),
+        None => Ok(Destinations::new(alloc)),
     }
 }
 
-fn all_bound(alloc: Global, bindings: &[Binding]) -> Result<Vec<QueueId>, Memory>
-    ensures ok { IfOk result (λ queues. queues.items ≡ map (λ b. b.queue) bindings.now) }
+fn all_bound(alloc: Global, bindings: &[Binding]) -> Result<Destinations, Memory>
+    ensures ok { IfOk result (λ queues. listed queues ≡ map (λ b. b.queue) bindings.now) }
     ensures want { IsOkUnless result Memory.Want }
 {
     let mut queues = Vec::new(alloc);
     for binding in bindings {
         queues.push(binding.queue)?;
     }
-    Ok(queues)
+    Ok(Destinations::Several(queues))
 }
 
-fn bound_by_pattern(alloc: Global, bindings: &[Binding], key: &str) -> Result<Vec<QueueId>, Memory>
-    ensures ok { IfOk result (λ queues. queues.items
+fn bound_by_pattern(alloc: Global, bindings: &[Binding], key: &str) -> Result<Destinations, Memory>
+    ensures ok { IfOk result (λ queues. listed queues
         ≡ map (λ b. b.queue) (filter (λ b. takes Topic b.key key.now) bindings.now)) }
     ensures want { IsOkUnless result Memory.Want }
 {
@@ -172,5 +174,5 @@ fn bound_by_pattern(alloc: Global, bindings: &[Binding], key: &str) -> Result<Ve
             queues.push(binding.queue)?;
         }
     }
-    Ok(queues)
+    Ok(Destinations::Several(queues))
 }

@@ -2,10 +2,12 @@ ghost use Rattle.std.specs.Prelude.{◌≡◌, ◌↔◌, Some, None, Ok, Err, m
 ghost use Rattle.std.specs.Bool.{OnTrue};
 ghost use Rattle.std.specs.List.{list_any};
 ghost use Rattle.std.specs.BTreeMap.{get_by_text};
+ghost use Rattle.qq_route.specs.Destinations.{listed};
 ghost use Rattle.qq_route.specs.Fault.{NoExchangeOnlyWhere};
 ghost use Rattle.qq_route.specs.Routes.{comes_to, is_named, is_bindable, first_exchanges, queue_id, bind_at, add_at, may_add, targets, add_queue, add_exchange, bind, new_table};
 ghost use Rattle.qq_route.specs.View.{table_of};
 
+use crate::destinations::Destinations;
 use crate::exchange::{Exchange, ExchangeKind};
 use qq_base::{Memory, QueueId, Text};
 use std::alloc::Global;
@@ -117,11 +119,11 @@ fn gather(alloc: Global, known: &BTreeSet<u32>, queues: &[QueueId]) -> Result<BT
     Ok(set)
 }
 
-fn queue_ids(alloc: Global, numbers: &BTreeSet<u32>) -> Result<Vec<QueueId>, Memory>
-    ensures ok { IfOk result (λ list. list.items ≡ map queue_id numbers.now.keys) }
+fn queue_ids(alloc: Global, numbers: &BTreeSet<u32>) -> Result<Destinations, Memory>
+    ensures ok { IfOk result (λ list. listed list ≡ map queue_id numbers.now.keys) }
     ensures want { IsOkUnless result Memory.Want }
 {
-    Ok(numbers.iter().map(|n| QueueId(*n)).collect(alloc)?)
+    Ok(Destinations::Several(numbers.iter().map(|n| QueueId(*n)).collect(alloc)?))
 }
 
 /// Whether these are one queue, which is known.
@@ -144,16 +146,16 @@ fn known_targets(
     known: &BTreeSet<u32>,
     exchange: &Exchange,
     key: &Text,
-) -> Result<Vec<QueueId>, Memory>
-    ensures ok { IfOk result (λ queues. queues.items
+) -> Result<Destinations, Memory>
+    ensures ok { IfOk result (λ queues. listed queues
         ≡ map queue_id (filter (comes_to exchange.now key.now) known.now.keys)) }
     ensures want { IsOkUnless result Memory.Want }
 {
     let bound = exchange.bound(alloc, key)?;
-    if is_one_known(known, &bound) {
+    if is_one_known(known, bound.as_slice()) {
         return Ok(bound);
     }
-    let targets = gather(alloc, known, &bound)?;
+    let targets = gather(alloc, known, bound.as_slice())?;
     queue_ids(alloc, &targets)
 }
 
@@ -244,9 +246,9 @@ impl Routes {
         alloc: Global,
         exchange: &Text,
         key: &Text,
-    ) -> Result<Vec<QueueId>, RouteFault>
+    ) -> Result<Destinations, RouteFault>
         ensures ok { IfOk result
-            (λ queues. targets (table_of self.now) exchange.now key.now ≡ Some queues.items) }
+            (λ queues. targets (table_of self.now) exchange.now key.now ≡ Some (listed queues)) }
         ensures fault { IfErr result (NoExchangeOnlyWhere
             (targets (table_of self.now) exchange.now key.now ≡ None)) }
         ensures absent { targets (table_of self.now) exchange.now key.now ≡ None

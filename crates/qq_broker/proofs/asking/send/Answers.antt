@@ -1,6 +1,7 @@
 use Rattle.std.proofs.Common.{All, sym, subst}
 use Rattle.qq_base.specs.declared.ids.QueueId.{QueueId}
 use Rattle.qq_nodes.specs.Nodes.{IsQueueAt}
+use Rattle.qq_route.specs.Destinations.{listed}
 use Rattle.qq_broker.proofs.Asked.{sent, sent-in-vain}
 use Rattle.qq_broker.proofs.GoingOn.{can-serve, targets-at}
 use Rattle.qq_broker.proofs.asking.send.Goals as goal
@@ -13,9 +14,9 @@ send-requires-clause-serve g c =
 pub send-requires-clause-queues : goal.send-requires-clause-queues
 send-requires-clause-queues g c =
     let disk = g.D.NodeDisk in
-    subst (All (λ (queue : QueueId). IsQueueAt queue c.args.nodes.now)) (sym c.as_slice.ensures.value)
+    subst (All (λ (queue : QueueId). IsQueueAt queue c.args.nodes.now)) (sym c.as_slice.ensures)
     (targets-at c.requires.holds.0 disk.facts c.args.setup.now c.requires.holds.1.0 c.args.nodes.now
-    c.in-Ok.queues.items c.requires.holds.1.1 c.in-Ok.ensures.there)
+    (listed c.in-Ok.queues) c.requires.holds.1.1 c.in-Ok.ensures.there)
 
 pub returns-clause-ok : goal.returns-clause-ok
 returns-clause-ok g c =
@@ -23,7 +24,7 @@ returns-clause-ok g c =
     sent given disk.facts c.args.setup.now c.args.session c.args.exchange c.args.key c.args.body
     c.in-Ok-publish_with.command c.as_slice.result.now c.send.result c.args.nodes.now c.send.new.self
     c.args.told.now c.send.new.told c.in-Ok-publish_with.ensures.ok
-    (rw c.as_slice.ensures.value c.in-Ok.ensures.ok)
+    (rw c.as_slice.ensures c.in-Ok.ensures.ok)
     c.send.ensures.ok
 
 pub returns-clause-cause : goal.returns-clause-cause
@@ -31,4 +32,4 @@ returns-clause-cause g c =
     let disk = g.D.NodeDisk in λ given.
     sent-in-vain given disk.facts c.args.setup.now c.args.session c.args.exchange c.args.key c.args.body
     c.in-Ok-publish_with.command c.as_slice.result.now c.send.result c.args.nodes.now c.send.new.self
-    c.in-Ok-publish_with.ensures.ok (rw c.as_slice.ensures.value c.in-Ok.ensures.ok) c.send.ensures.err
+    c.in-Ok-publish_with.ensures.ok (rw c.as_slice.ensures c.in-Ok.ensures.ok) c.send.ensures.err

@@ -5,7 +5,13 @@ use Rattle.qq_base.specs.declared.ids.SessionId.{SessionId}
 use Rattle.qq_consuming.specs.Consumers.{know_by}
 use Rattle.qq_session.specs.Clients.{may_hand}
 use Rattle.qq_cluster_queue.specs.Sessions.{numbers_of}
+use Rattle.qq_cluster_queue.proofs.Learning.{none-learned}
 use Rattle.qq_cluster_queue.proofs.sending.learn.Goals as goal
+
+pub returns-then-not-subscribes-clause-ok : goal.returns-then-not-subscribes-clause-ok
+returns-then-not-subscribes-clause-ok c =
+    none-learned (may_hand (numbers_of c.args.publishers.now c.args.session)) (client c.args.session)
+    c.args.body.now c.args.consumers.now (sym c.subscribes-subscribes.ensures ∙ c.if-not-subscribes.true)
 
 pub returns-then-not-room-clause-ok : goal.returns-then-not-room-clause-ok
 returns-then-not-room-clause-ok c =

@@ -6,5 +6,5 @@ use Rattle.qq_cluster_queue.proofs.cluster_queue.ClusterQueue.offer.Goals as goa
 
 pub returns-clause-ok : goal.returns-clause-ok
 returns-clause-ok g c =
-    subst (λ (o : Option NodeId). Makes (submit_to (number_of o) c.args.command) c.args.self.now.group c.happen.new.group)
-    (sym c.in-Some.is) c.in_default-happen.ensures.ok
+    subst (λ (o : Option NodeId). Makes (submit_to (number_of o) c.args.command) c.args.self.now.group c.submit.new.group)
+    (sym c.in-Some.is) c.in_default-submit.ensures.ok
