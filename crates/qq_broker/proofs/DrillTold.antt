@@ -153,7 +153,7 @@ drill-unread met had status number nodes before later (inr so) = by so.ends
 
 -- ---- the status of each cause
 
-damage-status : (node : ℕ) (damage : Damage) → (damage_ending node damage).status ≡ 8
+pub damage-status : (node : ℕ) (damage : Damage) → (damage_ending node damage).status ≡ 8
 damage-status node (AtPlace file place) = refl
 damage-status node (OfVersion file byte) = refl
 
