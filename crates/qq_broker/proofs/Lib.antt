@@ -38,8 +38,6 @@ pub mod Fair
 pub mod Following
 pub mod Unharmed
 pub mod Harmless
-pub mod MemberEnds
-pub mod QueueEnds
 pub mod NodeEnds
 pub mod SpentRuns
 pub mod RunDisks

@@ -1,7 +1,6 @@
 -- What stands at its end where nodes of a run have a number there.
 use Rattle.std.proofs.Common.{◌≡◌, ◌⊎◌, ◌≤◌, ◌<◌, ◌+◌, ◌-◌, ◌^◌, ℕ, suc, Bool, List, [], ◌∷◌, ◌++◌, length, Option, Some, None, refl, sym, ap, subst, ◌∙◌, inl, inr, arith}
 use Rattle.std.specs.Prelude.{IsTrue, is_some, slice_get}
-use Rattle.qq_base.specs.declared.memory.Memory.TheVariants.{Spent}
 use Rattle.qq_disk.specs.Disk.{Disk, IsListed, content, contents, now}
 use Rattle.qq_disk.specs.Facts.{DiskFacts}
 use Rattle.qq_disk.specs.Image.{log_of}
@@ -15,20 +14,19 @@ use Rattle.qq_session.specs.Publishing.{open_commands}
 use Rattle.qq_cluster.specs.Cluster.{ClusterEvent, Setup}
 use Rattle.qq_cluster.specs.Queue.{Queue, leader, submits}
 use Rattle.qq_cluster_laws.specs.Serves.{Seen, seen_of}
-use Rattle.qq_cluster_queue.specs.Sessions.{standings}
+use Rattle.qq_cluster_queue.proofs.MemberEnds.{AtBag, AtNumber, HasEnd, IsFull}
+use Rattle.qq_cluster_queue.proofs.QueueEnds.{OfClient, OfGroup, QueueEnds}
 use Rattle.qq_cluster_run.specs.Serving.{after_all}
 use Rattle.qq_node_log.specs.Log.{IsLater, disk_in}
 use Rattle.qq_node_log.specs.declared.node_log.NodeLog.{NodeLog}
-use Rattle.qq_nodes.specs.Ends.{HasLog, InFile, InNumbers, InQueue, IsRefusedAt, NumberAt, OnDisk}
+use Rattle.qq_nodes.specs.Ends.{HasLog, InFile, InNumbers, InQueue, NumberAt, OnDisk}
 use Rattle.qq_nodes.specs.Nodes.{node_at, seen, seen_in, seen_log}
-use Rattle.qq_nodes.specs.declared.asking.Ask.{Ask}
 use Rattle.qq_nodes.specs.declared.node.Node.{Node}
+use Rattle.qq_nodes.proofs.AskEnds.{refused-ends}
 use Rattle.qq_nodes.proofs.Turned.{within-length}
 use Rattle.qq_nodes.proofs.Walks.{in-range}
 use Rattle.qq_broker.specs.Lives.{Became, Giving}
 use Rattle.qq_broker.specs.Nodes.{HasNumber}
-use Rattle.qq_broker.proofs.MemberEnds.{AtBag, AtNumber, GroupEnds, HasEnd, IsFull}
-use Rattle.qq_broker.proofs.QueueEnds.{OfClient, OfGroup, QueueEnds, ask-ends}
 
 -- ---- queues
 
@@ -87,15 +85,6 @@ not-listed n d above other less = by (contents d (log_of other)) refl
 
 module _ {D : Type 0} (given : Giving D) (facts : DiskFacts D) (setup : Setup) (events : List ClusterEvent) (n : ℕ)
     (h : HasNumber given facts setup events n) where
-  -- a queue, by its index
-  refused-ends : (at : ℕ) (ask : Ask) → (r : IsRefusedAt ask at h.held.queues.items (Spent n))
-      → In (at + 1) setup.places × QueueEnds n ((after_all setup events).queue (at + 1))
-  refused-ends at ask r = (
-    subst (In (at + 1)) (sym h.stands.set_up.places)
-        (in-range (length h.held.queues.items) at (within-length h.held.queues.items at r.queue r.here)),
-    ask-ends (standings h.held.sessions) r.queue ((after_all setup events).queue (at + 1)) (h.stands.queues at r.queue r.here).stands n ask r.caused,
-  )
-
   node-there : (at : ℕ) (own : NodeLog D) → HasLog at h.held own → In (at + 1) setup.nodes
   node-there at own log =
       subst (In (at + 1)) (sym h.stands.set_up.nodes)
@@ -153,7 +142,7 @@ module _ {D : Type 0} (given : Giving D) (facts : DiskFacts D) (setup : Setup) (
     where
       by : NumberAt facts h.held n → IsNumbered
       by (InQueue at ask r) =
-          let ends = refused-ends at ask r in
+          let ends = refused-ends facts setup h.held (after_all setup events) h.stands n at ask r in
           let number = number-ends n ((after_all setup events).queue (at + 1)) end ends.1 in
           inl (at + 1, ends.0, number.0, number.1)
       by (InFile at own left log later long) =
@@ -187,7 +176,7 @@ module _ {D : Type 0} (given : Giving D) (facts : DiskFacts D) (setup : Setup) (
     where
       by : NumberAt facts h.held n → IsCounted
       by (InQueue at ask r) =
-          let ends = refused-ends at ask r in
+          let ends = refused-ends facts setup h.held (after_all setup events) h.stands n at ask r in
           let bag = bag-ends n ((after_all setup events).queue (at + 1)) below ends.1 in
           inl (at + 1, ends.0, bag.0, bag.1)
       by (InFile at own left log later long) =

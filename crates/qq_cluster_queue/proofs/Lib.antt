@@ -23,3 +23,5 @@ mod Refusing
 pub mod Fetched
 pub mod Asking
 mod Leading
+pub mod MemberEnds
+pub mod QueueEnds

@@ -1,40 +1,38 @@
 -- What stands at its end where an event of a queue's group is refused for a number.
 use Rattle.std.proofs.Common.{◌≡◌, ◌⊎◌, ◌≤◌, ◌<◌, ◌+◌, ◌-◌, ◌^◌, ℕ, zero, suc, false, List, [], ◌∷◌, ◌++◌, drop, length, take, Option, Some, None, refl, sym, ap, subst, ◌∙◌, inl, inr, arith}
-use Rattle.std.specs.Prelude.{slice_get}
 use Rattle.std.proofs.lemmas.List.{length-take-le}
 use Rattle.std.proofs.lemmas.List.Edits.{length-remove}
-use Rattle.std.proofs.lemmas.Option.{none-some}
-use Rattle.qq_base.specs.declared.memory.Memory.TheVariants.{Spent}
+use Rattle.std.proofs.lemmas.Option.{none-some, slice_get_within}
+use Rattle.qq_base.specs.declared.ids.NodeId.{NodeId}
+use Rattle.qq_base.specs.declared.memory.Memory.TheVariants.{Spent, Want}
+use Rattle.qq_base.specs.declared.memory.TheConstants.{NUMBER_END}
+use Rattle.qq_entry.specs.declared.command.Command.{Command}
 use Rattle.qq_entry.specs.declared.command.Entry.{Entry}
 use Rattle.qq_entry.specs.declared.queue.QueueArgs.{QueueArgs}
-use Rattle.qq_model.specs.Audit.{next_index, next_step, state_after}
+use Rattle.qq_model.specs.Audit.{state_after}
 use Rattle.qq_model.specs.State.{State, empty_queue, is_within_ends}
 use Rattle.qq_model.specs.Step.{step as step_queue}
 use Rattle.qq_raft_msg.specs.Bag.{at_place, without}
 use Rattle.qq_raft_msg.specs.Rpc.{envelope}
+use Rattle.qq_raft_msg.specs.declared.bag.TheConstants.{BAG_LIMIT}
 use Rattle.qq_raft_msg.specs.declared.rpc.Rpc.{Rpc}
-use Rattle.qq_raft_model.specs.Group.{Group, Seat}
+use Rattle.qq_raft_model.specs.Group.{Group}
 use Rattle.qq_raft_model.specs.Server.{Input, notice, receive, step}
-use Rattle.qq_raft_model.specs.Server.Input.{Notice, Receive}
+use Rattle.qq_raft_model.specs.Server.Input.{Add, Flush, Notice, Receive, Submit, Tick}
 use Rattle.qq_raft_model.specs.State.{Server}
 use Rattle.qq_raft_core.specs.Raft.{IsAtEnd, server_of}
 use Rattle.qq_raft.specs.Stands.{IsCaused, state_of}
 use Rattle.qq_raft.specs.Step.{PassesEnd, ServerState, apply_next, unapplied, with_raft}
 use Rattle.qq_raft_queues.proofs.SerialSteps.{step_applied}
-use Rattle.qq_raft_queues.specs.declared.machine_queue.MachineQueue.{MachineQueue}
 use Rattle.qq_group.specs.Events.{IsDeliveryCaused}
-use Rattle.qq_group.specs.Group.{IsSeat, IsSeatBy, Represents, server_at, server_by}
-use Rattle.qq_group.specs.Input.{IsActCaused, IsInputCaused, input_of}
+use Rattle.qq_group.specs.Group.{server_at}
 use Rattle.qq_group.specs.declared.event.Event.{Event}
 use Rattle.qq_group.specs.declared.event.Event.TheVariants as events
-use Rattle.qq_group.specs.declared.input.Input.{Input as Fed}
-use Rattle.qq_group.specs.declared.input.Input.TheVariants as inputs
-use Rattle.qq_group.specs.declared.seat.Seat.{Seat as SeatOf}
-use Rattle.qq_group_laws.specs.Audited.{IsAuditedBy, queue_after}
-use Rattle.qq_log.specs.Log.{LogState}
+use Rattle.qq_group_laws.specs.Audited.{IsAuditedBy}
 use Rattle.qq_session.proofs.AuditRows.{state-append}
 use Rattle.qq_cluster_queue.specs.Members.{IsGroupOf, IsStepCaused, Member, Members, own_log, queue_passes, queue_stands, queue_step}
-use Rattle.qq_nodes.proofs.Turned.{within-length}
+use Rattle.qq_cluster_queue.proofs.Members.{raft_of, seat-is}
+use Rattle.qq_cluster_queue.proofs.Rows.{after-is, applied-after}
 
 -- ---- what stands at its end
 
@@ -64,21 +62,6 @@ pub data GroupEnds (n : ℕ) (args : QueueArgs) (g : Group) : Type 0 where
 
 -- ---- the queue of a member
 
-after-is : (s : State) (es : List Entry) → queue_after queue_step s s.applied es ≡ state_after s es
-after-is s [] = refl
-after-is s (e ∷ es) =
-    let next : State = (next_step s e).state in
-    let count : next.applied ≡ s.applied + 1 = step_applied s (next_index s) e in
-    ap (λ (n : ℕ). queue_after queue_step next n es) (sym count) ∙ after-is next es
-
-applied-after : (s : State) (es : List Entry) → (state_after s es).applied ≡ s.applied + length es
-applied-after s [] = omega arith
-applied-after s (e ∷ es) =
-    let next : State = (next_step s e).state in
-    let count : next.applied ≡ s.applied + 1 = step_applied s (next_index s) e in
-    let rest : (state_after next es).applied ≡ next.applied + length es = applied-after next es in
-    omega (arith, count, rest)
-
 -- the first of some entries take a number past its end
 passing : (es : List Entry) (t : ServerState State) → t.queue.applied ≡ t.applied
     → PassesEnd queue_step queue_passes es t
@@ -103,36 +86,20 @@ passing (e ∷ es) t same (inr later) =
 
 -- ---- a member
 
--- as the definition has it
-abbrev pub raft_of : Option Member → Option Server
-raft_of None = None
-raft_of (Some s) = Some (server_of own_log s.raft)
-
-seat-by : (state : Seat) (seat : SeatOf MachineQueue LogState) (o : Option Member) → IsSeatBy own_log state seat o
-    → state.server ≡ raft_of o
-seat-by state seat None is = is.0
-seat-by state seat (Some s) is = is.0
-
-seat-at : (state : Seat) (o : Option (SeatOf MachineQueue LogState)) → IsSeat own_log state o
-    → state.server ≡ raft_of (server_by o)
-seat-at state None is = is
-seat-at state (Some seat) is = seat-by state seat seat.server is
-
-pub seat-is : (g : Group) (group : Members) (k : ℕ) → Represents own_log g group
-    → (g.seat k).server ≡ raft_of (server_at k group)
-seat-is g group k r = seat-at (g.seat k) (slice_get group.seats.items k) (r.seats k)
-
 without-le : (place : ℕ) (bag : List Rpc) (rpc : Rpc) → at_place place bag ≡ Some rpc
     → length (without place bag) ≤ length bag
 without-le zero bag rpc is = absurd (none-some rpc is)
 without-le (suc i) bag rpc is =
-    let less : i < length bag = within-length bag i rpc is in
+    let less : i < length bag = slice_get_within bag i rpc is in
     let one = length-remove bag i less in
     omega (arith, one)
 
 module _ (args : QueueArgs) (g : Group) (group : Members) (it : IsGroupOf args g group) (n : ℕ) where
+  abbrev server : Member → Server
+  server s = server_of own_log s.raft
+
   member-is : (k : ℕ) (s : Member) → server_at k group ≡ Some s
-      → (g.seat k).server ≡ Some (server_of own_log s.raft)
+      → (g.seat k).server ≡ Some (server s)
   member-is k s up = seat-is g group k it.represents ∙ ap raft_of up
 
   queue-is : (k : ℕ) (s : Member) → server_at k group ≡ Some s
@@ -160,16 +127,16 @@ module _ (args : QueueArgs) (g : Group) (group : Members) (it : IsGroupOf args g
       ≡ 0 + length (take s.raft.commit g.audit) = applied-after (empty_queue args) (take s.raft.commit g.audit) in
       omega (arith, count, long, current)
 
-  ended : (k : ℕ) (s : Member) → server_at k group ≡ Some s → n ≡ 2 ^ 63 → IsAtEnd (server_of own_log s.raft)
-      → GroupEnds n args g
-  ended k s up is (inl op) = AtNumber is (k, (server_of own_log s.raft, member-is k s up, inl op))
-  ended k s up is (inr (inl term)) =
-      AtNumber is (k, (server_of own_log s.raft, member-is k s up, inr (inl term)))
-  ended k s up is (inr (inr last)) =
-      AtNumber is (k, (server_of own_log s.raft, member-is k s up, inr (inr (inl last))))
+  bag-le : length group.bag ≤ length g.bag
+  bag-le = let same = ap length it.represents.bag in omega (arith, same)
 
-  abbrev server : Member → Server
-  server s = server_of own_log s.raft
+  ended : (k : ℕ) (s : Member) → server_at k group ≡ Some s → n ≡ 2 ^ 63 → IsAtEnd (server s)
+      → GroupEnds n args g
+  ended k s up is (inl op) = AtNumber is (k, (server s, member-is k s up, inl op))
+  ended k s up is (inr (inl term)) =
+      AtNumber is (k, (server s, member-is k s up, inr (inl term)))
+  ended k s up is (inr (inr last)) =
+      AtNumber is (k, (server s, member-is k s up, inr (inr (inl last))))
 
   -- what its queue has come to
   abbrev queue : Member → State
@@ -207,52 +174,91 @@ module _ (args : QueueArgs) (g : Group) (group : Members) (it : IsGroupOf args g
   applied k s up input acts same cause =
       let spent = cause (queue s) (queue-is k s up) in passed k s up input acts same spent.0 spent.1
 
-  acted : (input : Fed) (k : ℕ) (s : Member) → server_at k group ≡ Some s
-      → IsActCaused queue_stands queue_step queue_passes own_log input s (Spent n) → GroupEnds n args g
-  acted inputs.Tick k s up (is, end) = ended k s up is end
-  acted (inputs.Receive rpc) k s up cause = applied k s up (Receive rpc) (receive rpc) refl cause
-  acted (inputs.Submit time command) k s up (is, end) = ended k s up is end
-  acted (inputs.Add time command) k s up (is, end) = ended k s up is end
-  acted inputs.Flush k s up want = absurd cc
-  acted (inputs.Notice op) k s up cause = applied k s up (Notice op) (notice op) refl cause
+  -- the messages that it would send on an input are too many
+  abbrev Overflows : Input → List Rpc → Member → Type 0
+  Overflows input bag s =
+      (n ≡ BAG_LIMIT) × (BAG_LIMIT < length bag + length (step (server s) input).out)
 
-  fed : (input : Fed) (bag : List Rpc) (k : ℕ) (o : Option Member) → server_at k group ≡ o → length bag ≤ length g.bag
-      → IsInputCaused queue_stands queue_step queue_passes own_log input bag o (Spent n) → GroupEnds n args g
-  fed input bag k None up le cause = absurd cause
-  fed input bag k (Some s) up le (inl act) = acted input k s up act
-  fed input bag k (Some s) up le (inr (is, over)) =
-      let many : 2 ^ 32 - 1 < length bag + length (step (server_of own_log s.raft) (input_of input)).out = over in
-      AtBag is (inr (
-        k,
-        (
-          server_of own_log s.raft,
-          member-is k s up,
-          (input_of input, omega (arith, le, many)),
-        ),
-      ))
+  over : (input : Input) (bag : List Rpc) (k : ℕ) (s : Member) → server_at k group ≡ Some s
+      → length bag ≤ length g.bag → Overflows input bag s → GroupEnds n args g
+  over input bag k s up le (is, many) =
+      AtBag is (inr (k, (server s, member-is k s up, (input, omega (arith, le, many)))))
 
-  bag-le : length group.bag ≤ length g.bag
-  bag-le = let same = ap length it.represents.bag in omega (arith, same)
+  raft-ends : (input : Input) (k : ℕ) (s : Member) → server_at k group ≡ Some s
+      → ((n ≡ NUMBER_END) × IsAtEnd (server s)) ⊎ Overflows input group.bag s → GroupEnds n args g
+  raft-ends input k s up (inl (is, end)) = ended k s up is end
+  raft-ends input k s up (inr many) = over input group.bag k s up bag-le many
+
+  queue-ends : (input : Input) (bag : List Rpc) (k : ℕ) (s : Member) → server_at k group ≡ Some s
+      → length bag ≤ length g.bag → (acts : Server → Server) → acts (server s) ≡ step (server s) input
+      → ((plain : State) → queue_stands plain s.machine
+      → IsCaused queue_step queue_passes acts (state_of own_log plain s) (Spent n)) ⊎ Overflows input bag s
+      → GroupEnds n args g
+  queue-ends input bag k s up le acts same (inl cause) = applied k s up input acts same cause
+  queue-ends input bag k s up le acts same (inr many) = over input bag k s up le many
+
+  -- ---- what comes to a member
+
+  ticked : (node : NodeId) (o : Option Member) → server_at node.0 group ≡ o
+      → IsStepCaused (events.Tick node) group (Spent n) → GroupEnds n args g
+  ticked node None up cause = absurd (rw up at cause)
+  ticked node (Some s) up cause = raft-ends Tick node.0 s up (rw up at cause)
+
+  submitted : (node : NodeId) (time : ℕ) (command : Command) (o : Option Member) → server_at node.0 group ≡ o
+      → IsStepCaused (events.Submit node time command) group (Spent n) → GroupEnds n args g
+  submitted node time command None up cause = absurd (rw up at cause)
+  submitted node time command (Some s) up cause =
+      raft-ends (Submit time command) node.0 s up (rw up at cause)
+
+  added : (node : NodeId) (time : ℕ) (command : Command) (o : Option Member) → server_at node.0 group ≡ o
+      → IsStepCaused (events.Add node time command) group (Spent n) → GroupEnds n args g
+  added node time command None up cause = absurd (rw up at cause)
+  added node time command (Some s) up cause = raft-ends (Add time command) node.0 s up (rw up at cause)
+
+  no-want : {P : Type 0} → Spent n ≡ Want → P
+  no-want is = absurd cc
+
+  sends : (node : NodeId) (s : Member) → server_at node.0 group ≡ Some s
+      → (Spent n ≡ Want) ⊎ Overflows Flush group.bag s → GroupEnds n args g
+  sends node s up (inl want) = no-want want
+  sends node s up (inr many) = over Flush group.bag node.0 s up bag-le many
+
+  flushed : (node : NodeId) (o : Option Member) → server_at node.0 group ≡ o
+      → IsStepCaused (events.Flush node) group (Spent n) → GroupEnds n args g
+  flushed node None up cause = absurd (rw up at cause)
+  flushed node (Some s) up cause = sends node s up (rw up at cause)
+
+  noticed : (node : NodeId) (op : ℕ) (o : Option Member) → server_at node.0 group ≡ o
+      → IsStepCaused (events.Notice node op) group (Spent n) → GroupEnds n args g
+  noticed node op None up cause = absurd (rw up at cause)
+  noticed node op (Some s) up cause =
+      queue-ends (Notice op) group.bag node.0 s up bag-le (notice op) refl (rw up at cause)
+
+  received : (place : ℕ) (rpc : Rpc) → at_place place group.bag ≡ Some rpc → (o : Option Member)
+      → server_at (envelope rpc).to.0 group ≡ o
+      → IsDeliveryCaused queue_stands queue_step queue_passes own_log (Some rpc)
+      (record group { bag = without place group.bag }) (Spent n) → GroupEnds n args g
+  received place rpc is None up cause = absurd (rw up at cause)
+  received place rpc is (Some s) up cause =
+      let less = without-le place group.bag rpc is in
+      queue-ends (Receive rpc) (without place group.bag) (envelope rpc).to.0 s up (omega (arith, less, bag-le))
+      (receive rpc) refl (rw up at cause)
 
   delivered : (place : ℕ) (o : Option Rpc) → at_place place group.bag ≡ o
       → IsDeliveryCaused queue_stands queue_step queue_passes own_log o
       (record group { bag = without place group.bag }) (Spent n) → GroupEnds n args g
   delivered place None is cause = absurd cause
   delivered place (Some rpc) is cause =
-      let less = without-le place group.bag rpc is in
-      fed (inputs.Receive rpc) (without place group.bag) (envelope rpc).to.0 (server_at (envelope rpc).to.0 group) refl
-      (omega (arith, less, bag-le)) cause
+      received place rpc is (server_at (envelope rpc).to.0 group) refl cause
 
   pub step-ends : (event : Event) → IsStepCaused event group (Spent n) → GroupEnds n args g
-  step-ends (events.Tick node) cause = fed inputs.Tick group.bag node.0 (server_at node.0 group) refl bag-le cause
+  step-ends (events.Tick node) cause = ticked node (server_at node.0 group) refl cause
   step-ends (events.Submit node time command) cause =
-      fed (inputs.Submit time command) group.bag node.0 (server_at node.0 group) refl bag-le cause
-  step-ends (events.Add node time command) cause =
-      fed (inputs.Add time command) group.bag node.0 (server_at node.0 group) refl bag-le cause
-  step-ends (events.Flush node) cause = fed inputs.Flush group.bag node.0 (server_at node.0 group) refl bag-le cause
+      submitted node time command (server_at node.0 group) refl cause
+  step-ends (events.Add node time command) cause = added node time command (server_at node.0 group) refl cause
+  step-ends (events.Flush node) cause = flushed node (server_at node.0 group) refl cause
   step-ends (events.Deliver place) cause = delivered place (at_place place group.bag) refl cause
   step-ends (events.Lose place) cause = absurd cause
   step-ends (events.Copy place) (is, (some, full)) = AtBag is (inl (omega (arith, full, bag-le)))
-  step-ends (events.Notice node op) cause =
-      fed (inputs.Notice op) group.bag node.0 (server_at node.0 group) refl bag-le cause
+  step-ends (events.Notice node op) cause = noticed node op (server_at node.0 group) refl cause
   step-ends (events.Crash node) cause = absurd cause
