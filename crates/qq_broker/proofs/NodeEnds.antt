@@ -1,6 +1,6 @@
 -- What stands at its end where nodes of a run have a number there.
-use Rattle.std.proofs.Common.{◌≡◌, ◌⊎◌, ◌≤◌, ◌<◌, ◌+◌, ◌-◌, ◌^◌, ℕ, suc, Bool, List, [], ◌∷◌, ◌++◌, length, Option, Some, None, refl, sym, ap, subst, ◌∙◌, inl, inr, arith}
-use Rattle.std.specs.Prelude.{IsTrue, is_some, slice_get}
+use Rattle.std.proofs.Common.{◌≡◌, ◌⊎◌, ◌≤◌, ◌<◌, ◌+◌, ◌-◌, ◌^◌, ℕ, suc, List, [], ◌++◌, length, Option, Some, None, refl, sym, ap, subst, ◌∙◌, inl, inr, arith}
+use Rattle.std.specs.Prelude.{IsTrue, is_some}
 use Rattle.qq_disk.specs.Disk.{Disk, IsListed, content, contents, now}
 use Rattle.qq_disk.specs.Facts.{DiskFacts}
 use Rattle.qq_disk.specs.Image.{log_of}
@@ -20,8 +20,7 @@ use Rattle.qq_cluster_run.specs.Serving.{after_all}
 use Rattle.qq_node_log.specs.Log.{IsLater, disk_in}
 use Rattle.qq_node_log.specs.declared.node_log.NodeLog.{NodeLog}
 use Rattle.qq_nodes.specs.Ends.{HasLog, InFile, InNumbers, InQueue, NumberAt, OnDisk}
-use Rattle.qq_nodes.specs.Nodes.{node_at, seen, seen_in, seen_log}
-use Rattle.qq_nodes.specs.declared.node.Node.{Node}
+use Rattle.qq_nodes.specs.Nodes.{node_at, seen_in, seen_log}
 use Rattle.qq_nodes.proofs.AskEnds.{refused-ends}
 use Rattle.qq_nodes.proofs.Turned.{within-length}
 use Rattle.qq_nodes.proofs.Walks.{in-range}

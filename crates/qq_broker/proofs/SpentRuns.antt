@@ -1,5 +1,5 @@
 -- Where a run ends for a number, it has met that number at its end, and has printed it.
-use Rattle.std.proofs.Common.{◌≡◌, ◌⊎◌, ◌+◌, ◌++◌, ℕ, List, [], Option, Some, sym, ap, subst, ◌∙◌, inl, inr, arith}
+use Rattle.std.proofs.Common.{◌≡◌, ◌⊎◌, ◌+◌, ◌++◌, ℕ, List, [], Option, Some, ap, subst, ◌∙◌, inl, inr, arith}
 use Rattle.std.specs.Prelude.{IfSome}
 use Rattle.qq_ports.specs.Streams.{Streams, Writes}
 use Rattle.qq_script_lines.specs.declared.line.ScriptLine.{ScriptLine}

@@ -1,5 +1,5 @@
 -- What stands at its end where a queue refuses a call for a number.
-use Rattle.std.proofs.Common.{◌≡◌, ◌⊎◌, ◌^◌, ℕ, List, [], ◌∷◌, ◌++◌, Option, Some, None, refl, sym, ap, subst, ◌∙◌, inl, inr}
+use Rattle.std.proofs.Common.{◌≡◌, ◌^◌, ℕ, List, [], ◌∷◌, ◌++◌, Option, Some, None, refl, sym, ap, subst, ◌∙◌, inl, inr}
 use Rattle.qq_base.specs.declared.ids.NodeId.{NodeId}
 use Rattle.qq_base.specs.declared.memory.Memory.TheVariants.{Spent, Want}
 use Rattle.qq_entry.specs.declared.command.Command.{Command}
@@ -14,7 +14,7 @@ use Rattle.qq_session.specs.Publishing.{Numbers, next_command, open_commands}
 use Rattle.qq_cluster.specs.Queue.{Queue, leader, submits}
 use Rattle.qq_cluster_queue.specs.ClusterQueue.{HasRefused, IsOfferCaused, IsResendCaused, IsSubmitCaused, Stands}
 use Rattle.qq_cluster_queue.specs.Members.{IsGroupOf, IsStepCaused, IsTellingCaused, Members, number_of, own_log}
-use Rattle.qq_cluster_queue.specs.Sessions.{Standings, clients_of, numbers_of}
+use Rattle.qq_cluster_queue.specs.Sessions.{Standings, numbers_of}
 use Rattle.qq_cluster_queue.specs.declared.cluster_queue.ClusterQueue.{ClusterQueue}
 use Rattle.qq_cluster_queue.proofs.MemberEnds.{GroupEnds, step-ends}
 use Rattle.qq_cluster_queue.proofs.Offering.{leader-is}
