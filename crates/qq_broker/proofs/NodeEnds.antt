@@ -1,6 +1,7 @@
 -- What stands at its end where nodes of a run have a number there.
 use Rattle.std.proofs.Common.{◌≡◌, ◌⊎◌, ◌≤◌, ◌<◌, ◌+◌, ◌-◌, ◌^◌, ℕ, suc, List, [], ◌++◌, length, Option, Some, None, refl, sym, ap, subst, ◌∙◌, inl, inr, arith}
 use Rattle.std.specs.Prelude.{IsTrue, is_some}
+use Rattle.std.proofs.lemmas.Option.{slice_get_within}
 use Rattle.qq_disk.specs.Disk.{Disk, IsListed, content, contents, now}
 use Rattle.qq_disk.specs.Facts.{DiskFacts}
 use Rattle.qq_disk.specs.Image.{log_of}
@@ -22,7 +23,6 @@ use Rattle.qq_node_log.specs.declared.node_log.NodeLog.{NodeLog}
 use Rattle.qq_nodes.specs.Ends.{HasLog, InFile, InNumbers, InQueue, NumberAt, OnDisk}
 use Rattle.qq_nodes.specs.Nodes.{node_at, seen_in, seen_log}
 use Rattle.qq_nodes.proofs.AskEnds.{refused-ends}
-use Rattle.qq_nodes.proofs.Turned.{within-length}
 use Rattle.qq_nodes.proofs.Walks.{in-range}
 use Rattle.qq_broker.specs.Lives.{Became, Giving}
 use Rattle.qq_broker.specs.Nodes.{HasNumber}
@@ -87,7 +87,7 @@ module _ {D : Type 0} (given : Giving D) (facts : DiskFacts D) (setup : Setup) (
   node-there : (at : ℕ) (own : NodeLog D) → HasLog at h.held own → In (at + 1) setup.nodes
   node-there at own log =
       subst (In (at + 1)) (sym h.stands.set_up.nodes)
-      (in-range (length h.held.nodes.items) at (within-length h.held.nodes.items at log.node log.here))
+      (in-range (length h.held.nodes.items) at (slice_get_within h.held.nodes.items at log.node log.here))
 
   -- what has become of a node's disk is the one in its log
   record IsIn (at : ℕ) (own : NodeLog D) : Type 0 where

@@ -1,5 +1,6 @@
 -- What stands at its end where a queue of the nodes refuses what is asked of it.
 use Rattle.std.proofs.Common.{◌+◌, ℕ, length, sym, subst}
+use Rattle.std.proofs.lemmas.Option.{slice_get_within}
 use Rattle.qq_base.specs.Ids.{client}
 use Rattle.qq_base.specs.declared.memory.Memory.TheVariants.{Spent}
 use Rattle.qq_disk.specs.Facts.{DiskFacts}
@@ -17,7 +18,6 @@ use Rattle.qq_nodes.specs.Nodes.{Stands}
 use Rattle.qq_nodes.specs.declared.asking.Ask.{Ask}
 use Rattle.qq_nodes.specs.declared.asking.Ask.TheVariants.{Submit, TellEnded, TellNotTaken, Attach, Resend, Fetch, Down, Tick, Notice, Deliver, Lose, Copy}
 use Rattle.qq_nodes.specs.declared.nodes.Nodes.{Nodes as Held}
-use Rattle.qq_nodes.proofs.Turned.{within-length}
 use Rattle.qq_nodes.proofs.Walks.{in-range}
 
 module _ (sessions : Standings) (d : ClusterQueue) (q : Queue) (st : IsQueue sessions d q) (n : ℕ) where
@@ -43,6 +43,6 @@ module _ {D : Type 0} (facts : DiskFacts D) (setup : Setup) (held : Held D) (c :
       → In (at + 1) setup.places × QueueEnds n (c.queue (at + 1))
   refused-ends at ask r = (
     subst (In (at + 1)) (sym st.set_up.places)
-        (in-range (length held.queues.items) at (within-length held.queues.items at r.queue r.here)),
+        (in-range (length held.queues.items) at (slice_get_within held.queues.items at r.queue r.here)),
     ask-ends (standings held.sessions) r.queue (c.queue (at + 1)) (st.queues at r.queue r.here).stands n ask r.caused,
   )
