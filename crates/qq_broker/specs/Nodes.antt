@@ -20,8 +20,7 @@ use Rattle.qq_cluster_laws.specs.Restarts.{first_restart}
 use Rattle.qq_cluster_laws.specs.Serves.{seen_of}
 use Rattle.qq_cluster_run.specs.Serving.{Histories, Run, after_all, cluster_in, setup_in}
 use Rattle.qq_cluster_run.specs.Troubles.{Damage, AtPlace, OfVersion, Trouble, YardFails, DiskFails, FilesBreak, QueueIsFound, NumberEnds, TakerIsGone}
-use Rattle.qq_nodes.specs.Ends.{NumberAt}
-use Rattle.qq_nodes.specs.Nodes.{Stands, seen}
+use Rattle.qq_nodes.specs.Nodes.{NumberAt, Stands, seen}
 use Rattle.qq_nodes.specs.declared.nodes.Nodes.{Nodes}
 use Rattle.qq_broker.specs.Lives.{Became, Giving, IsGiven}
 
@@ -93,7 +92,7 @@ pub record HoldsQueue {D : Type 0} (given : Giving D) (facts : DiskFacts D) (set
       × (lane ≡ state_in lanes (setup.args place).queue)
 
 -- After these events nodes have the number at its end. Each one's disk is what has become of one that was given for it;
--- so where the number is of a log, that disk tells it, as it is or as a call has left it.
+-- so where the number is of a log, that disk tells it.
 pub record HasNumber {D : Type 0} (given : Giving D) (facts : DiskFacts D) (setup : ClusterSetup)
     (events : List ClusterEvent) (number : ℕ) : Type 0 where
   pub held : Nodes D

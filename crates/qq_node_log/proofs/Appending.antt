@@ -11,7 +11,6 @@ use Rattle.qq_disk.specs.Disk.{Disk, now}
 use Rattle.qq_disk.specs.Facts.{DiskFacts}
 use Rattle.qq_disk.specs.Moments.{Adds}
 use Rattle.qq_disk.proofs.Moments.{adds-none}
-use Rattle.qq_disk.proofs.Stored.{still_tells}
 use Rattle.qq_log.specs.Carries.{add_op, is_listed}
 use Rattle.qq_log.specs.declared.op.Op.{Op}
 use Rattle.qq_log.specs.Op.{queue}
@@ -24,13 +23,12 @@ use Rattle.qq_wal.specs.Wal.{carries_ahead}
 use Rattle.qq_wal_chain.specs.Laws.{op_records}
 use Rattle.qq_wal_record.specs.declared.record.LogRecord.{LogRecord}
 use Rattle.qq_node_log.specs.declared.node_log.NodeLog.TheVariants.{Open}
-use Rattle.qq_node_log.specs.Batches.{HasWritten, IsLong, IsLongGoing, IsLongOn, StaysGiven, StaysWriting}
+use Rattle.qq_node_log.specs.Batches.{HasWritten, IsLong, StaysGiven, StaysWriting}
 use Rattle.qq_node_log.specs.Ends.{CarriesAre}
 use Rattle.qq_node_log.specs.Giving.{AllGoOn}
 use Rattle.qq_node_log.specs.Log.{IsLater, IsWhole, SameLog}
 use Rattle.qq_node_log.specs.Steps.{CallKeeps, KeepsDisk, MayAppend, RunsOn}
 use Rattle.qq_node_log.proofs.Goes.{all-go, carries-given}
-use Rattle.qq_node_log.proofs.Ending.{long-on}
 use Rattle.qq_node_log.proofs.Same.{same-disk, same-later}
 
 -- a log that may be given ops takes them
@@ -111,9 +109,12 @@ module _ {D : Type 0} (facts : DiskFacts D) (ops : List Op) (old mid new : Wal D
   pub write-later : IsLater facts old.disk new.disk
   write-later = same-later facts (record old { waiting = mid.waiting }) new was.same
 
-  pub write-shown : (memory : Memory) → IsLongGoing new memory → IsTrue (facts.tells old.disk)
-      → IsLongOn memory (now (facts.past new.disk))
-  write-shown memory long tell = long-on facts new memory was.same.sound (still_tells was.same.told tell) long
+  -- with what was gathered the log's file is too long
+  pub write-long : old.waiting.items ≡ [] → (memory : Memory) → IsLong mid mid.waiting.items memory
+      → IsLong old (op_records ops) memory
+  write-long none memory long =
+      subst (λ (rs : List LogRecord). IsLong old rs memory) (sym (waits none))
+      (subst (λ (w : Wal D). IsLong w mid.waiting.items memory) gave.same long)
 
   -- ---- a log that goes on
 
@@ -137,5 +138,6 @@ module _ {D : Type 0} (facts : DiskFacts D) (ops : List Op) (old mid new : Wal D
       }
 
 -- want of memory is no number at its end
-pub want-long : {D : Type 0} (wal : Wal D) (memory : Memory) → memory ≡ Want → IsLong wal memory
-want-long wal memory is = subst (IsLong wal) (sym is) tt
+pub want-long : {D : Type 0} (wal : Wal D) (records : List LogRecord) (memory : Memory) → memory ≡ Want
+    → IsLong wal records memory
+want-long wal records memory is = subst (IsLong wal records) (sym is) tt

@@ -4,8 +4,9 @@ use Rattle.std.proofs.lemmas.Bool.{false≢true, lt-ltb}
 use Rattle.std.proofs.lemmas.List.Elements.{All-head}
 use Rattle.std.proofs.lemmas.List.{take-map, drop-drop, drop-map, length-drop}
 use Rattle.std.specs.Global.{Vec}
-use Rattle.std.specs.Prelude.{Err, IsTrue, nat_lt}
+use Rattle.std.specs.Prelude.{IsTrue, nat_lt}
 use Rattle.qq_base.specs.declared.ids.QueueId.{QueueId}
+use Rattle.qq_base.specs.declared.memory.Memory.{Memory as MemoryFault}
 use Rattle.qq_base.specs.declared.memory.Memory.TheVariants.{Want, Spent}
 use Rattle.qq_disk.specs.Disk.{Disk, now}
 use Rattle.qq_disk.specs.Facts.{DiskFacts}
@@ -21,7 +22,7 @@ use Rattle.qq_wal.specs.declared.batch.TheConstants.{BATCH_BYTES, BATCH_OPS}
 use Rattle.qq_wal.specs.declared.fault.WalFault.{WalFault}
 use Rattle.qq_wal.specs.declared.fault.WalFault.TheVariants.{Disk as DiskFailed, Stopped, TooLarge, Memory}
 use Rattle.qq_wal.specs.declared.wal.Wal.{Wal}
-use Rattle.qq_wal.specs.Fault.{IsAppendCaused, stops_at}
+use Rattle.qq_wal.specs.Fault.{IsAppendCaused}
 use Rattle.qq_wal.specs.Running.{StaysGiving, HoldsAlso}
 use Rattle.qq_wal.specs.Wal.{Appends, StaysAppending}
 use Rattle.qq_wal_chain.specs.Laws.{op_records}
@@ -29,7 +30,7 @@ use Rattle.qq_wal_record.specs.declared.record.LogRecord.{LogRecord}
 use Rattle.qq_wal_record.specs.declared.record.LogRecord.TheVariants.{Op as OpRecord}
 use Rattle.qq_wal_record.specs.Encoding.{record_encoding}
 use Rattle.qq_wal_record.specs.Record.{payload_length}
-use Rattle.qq_node_log.specs.Batches.{AppendsFirst, AppendsSome, HoldsWritten, IsBatchOf, IsWriteCaused, StaysWriting}
+use Rattle.qq_node_log.specs.Batches.{AppendsFirst, AppendsSome, HoldsWritten, IsBatchOf, IsLong, IsLongWith, IsWriteCaused, StaysWriting}
 
 -- ---- one batch
 
@@ -55,14 +56,16 @@ batch-is lengths n (suc count) waiting fit batch =
 
 pub appends-some : {D : Type 0} (facts : DiskFacts D)
     (lengths : (file : ℕ) (r : LogRecord) → length (record_encoding file r) ≡ 25 + payload_length r) (count : ℕ)
-    (old new : Wal D) → AllFitBatch old.waiting.items → Appends count old new
+    (old new : Wal D) → AllFitBatch old.waiting.items → Appends count old new → new.header.file ≡ old.header.file
     → (IsTrue (facts.tells old.disk)
     → AppendsFirst old.queues.items count old.waiting.items (facts.past old.disk) (facts.past new.disk))
     → AppendsSome facts (nat_lt 0 count) old new
-appends-some facts lengths count old new fit a appended = record {
+appends-some facts lengths count old new fit a file appended = record {
   count = count;
   batch = batch-is lengths old.header.file count old.waiting.items fit a.batch;
   waiting = a.waiting;
+  size = a.size;
+  file = file;
   appended = appended;
   going = a.going;
 }
@@ -80,6 +83,10 @@ less-waits facts more old new is s =
 none-left : (k : ℕ) → drop {A = LogRecord} k [] ≡ []
 none-left zero = refl
 none-left (suc k) = refl
+
+none-taken : (k : ℕ) → take {A = LogRecord} k [] ≡ []
+none-taken zero = refl
+none-taken (suc k) = refl
 
 -- nothing was taken, so nothing waits
 pub nothing-waits : {D : Type 0} (facts : DiskFacts D) (more : Bool) (old new : Wal D)
@@ -155,12 +162,47 @@ some-next queues count waiting old mid new lacks stays ops is lot parts same tie
 pub record Begun {D : Type 0} (facts : DiskFacts D) (old new : Wal D) : Type 0 where
   pub count : ℕ
   pub waiting : new.waiting.items ≡ drop count old.waiting.items
+  pub size : new.size ≡ old.size + length (encodings old.header.file (take count old.waiting.items))
+  pub file : new.header.file ≡ old.header.file
   pub lacks : IsTrue (facts.tells old.disk)
       → Lacks old.queues.items count old.waiting.items (facts.past old.disk) (facts.past new.disk)
 
 pub begun-none : {D : Type 0} (facts : DiskFacts D) (w : Wal D) → Begun facts w w
-begun-none facts w =
-    record { count = 0; waiting = refl; lacks = λ told. lacks-all w.queues.items w.waiting.items (facts.past w.disk) }
+begun-none facts w = record {
+  count = 0;
+  waiting = refl;
+  size = omega arith;
+  file = refl;
+  lacks = λ told. lacks-all w.queues.items w.waiting.items (facts.past w.disk);
+}
+
+-- the bytes of some records and of those that follow
+encodings-next : (file count more : ℕ) (rs : List LogRecord)
+    → length (encodings file (take (count + more) rs))
+    ≡ length (encodings file (take count rs)) + length (encodings file (take more (drop count rs)))
+encodings-next file zero more rs =
+    let same : length (encodings file (take (0 + more) rs)) ≡ length (encodings file (take more (drop 0 rs))) =
+    ap (λ (n : ℕ). length (encodings file (take n rs))) (let e : 0 + more ≡ more = omega arith in e) in
+    omega (arith, same)
+encodings-next file (suc count) more [] =
+    let all : length (encodings file (take (suc count + more) [])) ≡ 0 =
+    ap (λ (rs : List LogRecord). length (encodings file rs)) (none-taken (suc count + more)) in
+    let later : length (encodings file (take more (drop (suc count) []))) ≡ 0 =
+    ap (λ (rs : List LogRecord). length (encodings file rs)) (none-taken more) in
+    omega (arith, all, later)
+encodings-next file (suc count) more (r ∷ rs) =
+    let all : length (encodings file (take (suc count + more) (r ∷ rs)))
+    ≡ length (record_encoding file r ++ encodings file (take (count + more) rs)) =
+    ap (λ (n : ℕ). length (encodings file (take n (r ∷ rs))))
+    (let e : suc count + more ≡ suc (count + more) = omega arith in e) in
+    let here = length-append (record_encoding file r) (encodings file (take (count + more) rs)) in
+    let first : length (encodings file (take (suc count) (r ∷ rs)))
+    ≡ length (record_encoding file r) + length (encodings file (take count rs)) =
+    length-append (record_encoding file r) (encodings file (take count rs)) in
+    let later : length (encodings file (take (count + more) rs))
+    ≡ length (encodings file (take count rs)) + length (encodings file (take more (drop (suc count) (r ∷ rs)))) =
+    encodings-next file count more rs in
+    omega (arith, all, here, first, later)
 
 -- one batch more
 pub begun-more : {D : Type 0} (facts : DiskFacts D) (more : Bool) (old mid new : Wal D)
@@ -169,6 +211,13 @@ pub begun-more : {D : Type 0} (facts : DiskFacts D) (more : Bool) (old mid new :
 begun-more facts more old mid new queues told b s = record {
   count = b.count + s.count;
   waiting = s.waiting ∙ ap (drop s.count) b.waiting ∙ drop-drop s.count b.count old.waiting.items;
+  size = let before = b.size in
+      let more = s.size
+      ∙ ap (λ (n : ℕ). mid.size + length (encodings n (take s.count mid.waiting.items))) b.file
+      ∙ ap (λ (rs : List LogRecord). mid.size + length (encodings old.header.file (take s.count rs))) b.waiting in
+      let bytes = encodings-next old.header.file b.count s.count old.waiting.items in
+      omega (arith, before, more, bytes);
+  file = s.file ∙ b.file;
   lacks = λ tell. lacks-next old.queues.items b.count s.count old.waiting.items
       (facts.past old.disk) (facts.past mid.disk) (facts.past new.disk) (b.lacks tell)
       (subst (λ (ids : List QueueId). AppendsFirst ids s.count (drop b.count old.waiting.items) (facts.past mid.disk)
@@ -213,20 +262,40 @@ begun-some facts old mid new queues b tell stays =
 
 -- ---- why it gave up
 
-pub write-caused : {D : Type 0} (T : Type 0) (faults : D → ℕ) (stopped : Bool) (old new : Wal D) (fault : WalFault)
-    → stopped ≡ false → new.size ≡ old.size → new.stopped ≡ stops_at {T = T} stopped (Err fault)
-    → IsAppendCaused stopped old.size (faults old.disk) (faults new.disk) fault → IsWriteCaused faults old new fault
-write-caused T faults stopped old new DiskFailed going same stops cause = cause
-write-caused T faults stopped old new Stopped going same stops cause = false≢true (sym going ∙ cause)
-write-caused T faults stopped old new TooLarge going same stops cause = cause
-write-caused T faults stopped old new (Memory Want) going same stops cause = (tt, stops ∙ going)
-write-caused T faults stopped old new (Memory (Spent number)) going same stops cause =
-    ((cause.0 ∙ sym same, omega (arith, cause.1, same)), stops ∙ going)
+pub write-caused : {D : Type 0} (faults : D → ℕ) (stopped : Bool) (old new : Wal D) (fault : WalFault)
+    → stopped ≡ false → IsAppendCaused stopped old.size (faults old.disk) (faults new.disk) fault
+    → IsWriteCaused faults old new fault
+write-caused faults stopped old new DiskFailed going cause = cause
+write-caused faults stopped old new Stopped going cause = false≢true (sym going ∙ cause)
+write-caused faults stopped old new TooLarge going cause = cause
+write-caused faults stopped old new (Memory Want) going cause = tt
+write-caused faults stopped old new (Memory (Spent number)) going cause =
+    let is : number ≡ old.size = cause.0 in
+    record {
+      count = 0;
+      is = omega (arith, is);
+      long = let more = cause.1 in omega (arith, is, more);
+    }
 
-pub later-caused : {D : Type 0} (faults : D → ℕ) (old mid new : Wal D) (fault : WalFault)
-    → faults old.disk ≤ faults mid.disk → IsWriteCaused faults mid new fault → IsWriteCaused faults old new fault
-later-caused faults old mid new DiskFailed more (inl less) = inl (omega (arith, less, more))
-later-caused faults old mid new DiskFailed more (inr end) = inr end
-later-caused faults old mid new Stopped more cause = cause
-later-caused faults old mid new TooLarge more cause = cause
-later-caused faults old mid new (Memory m) more cause = cause
+-- after some batches it is with what they were of
+begun-long : {D : Type 0} (facts : DiskFacts D) (old mid : Wal D) → Begun facts old mid → (memory : MemoryFault)
+    → IsLong mid mid.waiting.items memory → IsLong old old.waiting.items memory
+begun-long facts old mid b Want long = tt
+begun-long facts old mid b (Spent number) long =
+    let rest = subst (λ (rs : List LogRecord). IsLongWith number mid.size mid.header.file rs) b.waiting long in
+    let here = subst (λ (file : ℕ). IsLongWith number mid.size file (drop b.count old.waiting.items)) b.file rest in
+    let bytes = encodings-next old.header.file b.count here.count old.waiting.items in
+    record {
+      count = b.count + here.count;
+      is = let is = here.is in let size = b.size in omega (arith, is, size, bytes);
+      long = here.long;
+    }
+
+pub later-caused : {D : Type 0} (facts : DiskFacts D) (old mid new : Wal D) (fault : WalFault) → Begun facts old mid
+    → facts.faults old.disk ≤ facts.faults mid.disk → IsWriteCaused facts.faults mid new fault
+    → IsWriteCaused facts.faults old new fault
+later-caused facts old mid new DiskFailed b more (inl less) = inl (omega (arith, less, more))
+later-caused facts old mid new DiskFailed b more (inr end) = inr end
+later-caused facts old mid new Stopped b more cause = cause
+later-caused facts old mid new TooLarge b more cause = cause
+later-caused facts old mid new (Memory m) b more cause = begun-long facts old mid b m cause

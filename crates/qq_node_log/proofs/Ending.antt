@@ -1,20 +1,21 @@
 -- A number at its end is that of the log's file on the disk.
-use Rattle.std.proofs.Common.{◌≡◌, ◌≤◌, ◌<◌, ◌⊎◌, ℕ, Bool, true, false, [], ◌++◌, Option, Some, refl, sym, ap, ◌∙◌, subst, arith, is_some, inl, inr}
-use Rattle.std.specs.Prelude.{Err, IsTrue, Result}
-use Rattle.std.proofs.lemmas.Bool.{false≢true}
+use Rattle.std.proofs.Common.{◌≡◌, ◌≤◌, ℕ, false, List, [], Option, refl, sym, ap, ◌∙◌, subst, arith, is_some}
+use Rattle.std.specs.Prelude.{IsTrue}
+use Rattle.qq_base.specs.Causes.{SpentOnlyWhere}
 use Rattle.qq_base.specs.declared.memory.Memory.{Memory}
 use Rattle.qq_base.specs.declared.memory.Memory.TheVariants.{Want, Spent}
+use Rattle.qq_base.specs.declared.memory.TheConstants.{NUMBER_END}
 use Rattle.qq_disk.specs.Disk.{Disk, FileState, IsListed, file_content, now}
 use Rattle.qq_disk.specs.Facts.{DiskFacts}
 use Rattle.qq_disk.specs.Image.{log_of}
-use Rattle.qq_wal.specs.declared.fault.WalFault.{WalFault}
-use Rattle.qq_wal.specs.declared.fault.WalFault.TheVariants.{Memory as OfMemory}
+use Rattle.qq_log.specs.declared.op.Op.{Op}
+use Rattle.qq_wal.specs.declared.numbers.Numbers.{Numbers}
 use Rattle.qq_wal.specs.declared.wal.Wal.{Wal}
-use Rattle.qq_wal.specs.Fault.{StopsAtRoll}
 use Rattle.qq_wal.specs.Wal.{IsOnDisk, IsSound}
-use Rattle.qq_node_log.specs.Batches.{IsLongGoing, IsLongOn}
-use Rattle.qq_node_log.specs.Log.{IsGrown, IsInNewest, IsLater}
-use Rattle.qq_node_log.specs.Syncing.{GoesOnAt, IsLast, IsLastOn}
+use Rattle.qq_wal_chain.specs.Laws.{op_records}
+use Rattle.qq_node_log.specs.Batches.{IsLong, IsLongOn, IsLongWith}
+use Rattle.qq_node_log.specs.Log.{IsInNewest, IsLater}
+use Rattle.qq_node_log.specs.Syncing.{IsLast, IsLastOn}
 
 -- a log whose memory was gathered alone is where it was
 pub gathered-later : {D : Type 0} (facts : DiskFacts D) (old new : Wal D)
@@ -25,22 +26,21 @@ gathered-later {D} facts old new same = record {
 }
 
 -- the file that is written to is as long as the log knows
-pub long-on : {D : Type 0} (facts : DiskFacts D) (wal : Wal D) (memory : Memory)
-    → IsSound facts wal → IsTrue (facts.tells wal.disk) → IsLongGoing wal memory
-    → IsLongOn memory (now (facts.past wal.disk))
-long-on facts wal Want sound tell long = tt
-long-on facts wal (Spent number) sound tell long =
+pub long-on : {D : Type 0} (facts : DiskFacts D) (wal : Wal D) (ops : List Op) (memory : Memory)
+    → IsSound facts wal → IsTrue (facts.tells wal.disk) → wal.stopped ≡ false → IsLong wal (op_records ops) memory
+    → IsLongOn memory ops (now (facts.past wal.disk))
+long-on facts wal ops Want sound tell going long = tt
+long-on facts wal ops (Spent number) sound tell going long =
     let on : IsOnDisk wal.queues.items wal.header wal.marks wal.size wal.numbers (now (facts.past wal.disk)) =
-    sound.on_disk tell long.1 in
+    sound.on_disk tell going in
     record {
       file = wal.header.file;
-      is = long.0.0 ∙ on.size_is;
-      long = omega (arith, long.0.0, long.0.1);
+      with_ops = subst (λ (size : ℕ). IsLongWith number size wal.header.file (op_records ops)) on.size_is long;
     }
 
 -- and it is there, and the newest
 pub last-on : {D : Type 0} (facts : DiskFacts D) (wal : Wal D) (memory : Memory)
-    → IsSound facts wal → IsTrue (facts.tells wal.disk) → IsInNewest wal → GoesOnAt wal memory → IsLast wal memory
+    → IsSound facts wal → IsTrue (facts.tells wal.disk) → IsInNewest wal → wal.stopped ≡ false → IsLast wal memory
     → IsLastOn memory (now (facts.past wal.disk))
 last-on facts wal Want sound tell newest going last = tt
 last-on facts wal (Spent number) sound tell newest going last =
@@ -54,24 +54,11 @@ last-on facts wal (Spent number) sound tell newest going last =
       end = omega (arith, last.0, last.1);
     }
 
--- a new file that wasn't begun for want of a number leaves the log going
-pub rolls-on : {D : Type 0} (T : Type 0) (wal : Wal D) (number : ℕ) (fault : WalFault) (memory : Memory) (d : Disk)
-    (stopped : Bool) → fault ≡ OfMemory memory → stopped ≡ false
-    → StopsAtRoll {T = T} number stopped (Err fault) wal.stopped d → GoesOnAt wal memory
-rolls-on T wal number fault memory d stopped is going stops =
-    by memory (subst (λ (f : WalFault). StopsAtRoll {T = T} number stopped (Err f) wal.stopped d) is stops)
-  where
-    wants : (m : ℕ) (r : Result T WalFault) → r ≡ Err (OfMemory (Spent m)) → r ≡ Err (OfMemory Want) → ⊥
-    wants m r one other =
-        absurd (let e : OfMemory (Spent m) ≡ OfMemory Want = cc in let f : Spent m ≡ Want = cc in cc)
+-- it is that of a log with the same numbers
+pub numbers-last : {D : Type 0} (old new : Wal D) (memory : Memory) → new.numbers ≡ old.numbers → IsLast new memory
+    → IsLast old memory
+numbers-last old new memory same =
+    subst (λ (n : Numbers). SpentOnlyWhere memory n.log (NUMBER_END ≤ n.log)) same
 
-    by : (m : Memory) → StopsAtRoll {T = T} number stopped (Err (OfMemory m)) wal.stopped d → GoesOnAt wal m
-    by Want stops = tt
-    by (Spent m) (inl same) = same ∙ going
-    by (Spent m) (inr want) = absurd (wants m (Err (OfMemory (Spent m))) refl want.0)
-
-pub want-going : {D : Type 0} (wal : Wal D) (memory : Memory) → memory ≡ Want → GoesOnAt wal memory
-want-going wal memory is = subst (GoesOnAt wal) (sym is) tt
-
-pub want-on : (memory : Memory) (d : Disk) → memory ≡ Want → IsLongOn memory d
-want-on memory d is = subst (λ (m : Memory). IsLongOn m d) (sym is) tt
+pub want-on : (memory : Memory) (ops : List Op) (d : Disk) → memory ≡ Want → IsLongOn memory ops d
+want-on memory ops d is = subst (λ (m : Memory). IsLongOn m ops d) (sym is) tt

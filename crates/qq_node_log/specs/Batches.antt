@@ -1,6 +1,6 @@
 -- What batches, one after the other, make of a log of some queues.
 use Rattle.std.specs.Prelude.{◌≡◌, ◌<◌, ◌+◌, ◌-◌, ◌^◌, ℕ, Bool, true, false, List, [], length, drop, take, IsTrue}
-use Rattle.qq_base.specs.Causes.{Rose, SpentOnlyWhere}
+use Rattle.qq_base.specs.Causes.{Rose}
 use Rattle.qq_base.specs.declared.ids.QueueId.{QueueId}
 use Rattle.qq_base.specs.declared.memory.Memory.{Memory}
 use Rattle.qq_base.specs.declared.memory.Memory.TheVariants.{Want, Spent}
@@ -11,6 +11,7 @@ use Rattle.qq_disk.specs.Moments.{Adds}
 use Rattle.qq_log.specs.declared.op.Op.{Op}
 use Rattle.qq_lots.specs.Kept.{IsTied, KeepsPromised}
 use Rattle.qq_lots.specs.Lots.{Lot, Parts, give_batch, ids_of}
+use Rattle.qq_wal.specs.Batch.{encodings}
 use Rattle.qq_wal.specs.declared.batch.TheConstants.{BATCH_BYTES}
 use Rattle.qq_wal.specs.declared.fault.WalFault.{WalFault}
 use Rattle.qq_wal.specs.declared.fault.WalFault.TheVariants.{Disk as DiskFailed, Stopped, TooLarge, Memory as OfMemory}
@@ -39,6 +40,8 @@ pub record AppendsSome {D : Type 0} (facts : DiskFacts D) (more : Bool) (old new
     pub count : ℕ
     pub batch : IsBatchOf more old.waiting.items count
     pub waiting : new.waiting.items ≡ drop count old.waiting.items
+    pub size : new.size ≡ old.size + length (encodings old.header.file (take count old.waiting.items))
+    pub file : new.header.file ≡ old.header.file
     pub appended : IsTrue (facts.tells old.disk)
         → AppendsFirst old.queues.items count old.waiting.items (facts.past old.disk) (facts.past new.disk)
     pub going : new.stopped ≡ false
@@ -73,32 +76,35 @@ pub record HasWritten {D : Type 0} (facts : DiskFacts D) (old new : Wal D) : Typ
 
 -- ---- why it gave up
 
--- one batch more could make the log's file longer than a number of 64 bits tells
-abbrev pub IsLong : {D : Type 0} → Wal D → Memory → Type 0
-IsLong wal memory = SpentOnlyWhere memory wal.size (2 ^ 64 - 1 < wal.size + BATCH_BYTES)
-
-abbrev pub IsLongIn : {D : Type 0} → NodeLog D → Memory → Type 0
-IsLongIn (Open wal) memory = IsLong wal memory
-IsLongIn (Closed disk) memory = ⊥
-
--- a log file of the disk has so many bytes, and one batch more could make it longer than a number of 64 bits tells
-pub record HasLongLog (number : ℕ) (d : Disk) : Type 0 where
-  pub file : ℕ
-  pub is : number ≡ length (content d (log_of file))
+-- With the first of these records behind it a file would have so many bytes, and one batch more could make it longer than
+-- a number of 64 bits tells.
+pub record IsLongWith (number size file : ℕ) (records : List LogRecord) : Type 0 where
+  pub count : ℕ
+  pub is : number ≡ size + length (encodings file (take count records))
   pub long : 2 ^ 64 - 1 < number + BATCH_BYTES
 
+-- the log's file has, with the first of these records
+abbrev pub IsLong : {D : Type 0} → Wal D → List LogRecord → Memory → Type 0
+IsLong wal records Want = Unit {0}
+IsLong wal records (Spent number) = IsLongWith number wal.size wal.header.file records
+
+abbrev pub IsLongIn : {D : Type 0} → NodeLog D → List Op → Memory → Type 0
+IsLongIn (Open wal) ops memory = IsLong wal (op_records ops) memory
+IsLongIn (Closed disk) ops memory = ⊥
+
+-- a log file of the disk has, with the first of these ops
+pub record HasLongLog (number : ℕ) (ops : List Op) (d : Disk) : Type 0 where
+  pub file : ℕ
+  pub with_ops : IsLongWith number (length (content d (log_of file))) file (op_records ops)
+
 -- it is what the disk holds
-abbrev pub IsLongOn : Memory → Disk → Type 0
-IsLongOn Want d = Unit {0}
-IsLongOn (Spent number) d = HasLongLog number d
+abbrev pub IsLongOn : Memory → List Op → Disk → Type 0
+IsLongOn Want ops d = Unit {0}
+IsLongOn (Spent number) ops d = HasLongLog number ops d
 
--- and no call of the log's disk has failed
-abbrev pub IsLongGoing : {D : Type 0} → Wal D → Memory → Type 0
-IsLongGoing wal memory = IsLong wal memory × (wal.stopped ≡ false)
-
--- the disk's count rose, or there was no memory, or the file is too long
+-- the disk's count rose, or there was no memory, or the file is too long with some of what waits
 abbrev pub IsWriteCaused : {D : Type 0} → (D → ℕ) → Wal D → Wal D → WalFault → Type 0
 IsWriteCaused faults old new DiskFailed = Rose (faults old.disk) (faults new.disk)
 IsWriteCaused faults old new Stopped = ⊥
 IsWriteCaused faults old new TooLarge = ⊥
-IsWriteCaused faults old new (OfMemory memory) = IsLongGoing new memory
+IsWriteCaused faults old new (OfMemory memory) = IsLong old old.waiting.items memory

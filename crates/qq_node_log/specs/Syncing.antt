@@ -101,8 +101,3 @@ pub record HasLastLog (number : ℕ) (d : Disk) : Type 0 where
 abbrev pub IsLastOn : Memory → Disk → Type 0
 IsLastOn Want d = Unit {0}
 IsLastOn (Spent number) d = HasLastLog number d
-
--- where it isn't want of memory, no call of the log's disk has failed
-abbrev pub GoesOnAt : {D : Type 0} → Wal D → Memory → Type 0
-GoesOnAt wal Want = Unit {0}
-GoesOnAt wal (Spent number) = wal.stopped ≡ false

@@ -2,7 +2,7 @@
 ghost use Rattle.std.specs.Prelude.{◌≡◌, false, true, IsTrue, IfErr, IfOk, OnOk};
 ghost use Rattle.qq_base.specs.Causes.{Rose};
 ghost use Rattle.qq_wal.specs.Wal.{IsSound, StaysAppending};
-ghost use Rattle.qq_node_log.specs.Batches.{AppendsSome, HasWritten, IsLongGoing, IsWriteCaused, StaysWriting};
+ghost use Rattle.qq_node_log.specs.Batches.{AppendsSome, HasWritten, IsLong, IsWriteCaused, StaysWriting};
 ghost use Rattle.qq_node_log.specs.Log.{SameLog};
 
 use qq_base::Memory;
@@ -47,8 +47,8 @@ fn append_all<D: NodeDisk>(wal: &mut Wal<D>, alloc: Global) -> Result<(), WalFau
 ///
 /// - `ok`: nothing waits any more, and over a disk that tells its contents all of it is on the disk.
 /// - `stays`: at each moment, also where it fails, what was promised is, with these ops among the given ones.
-/// - `cause`: `Spent` comes only where a batch more could make the file longer than 2^64 - 1 bytes. After an
-///   error no call of the disk has failed.
+/// - `cause`: `Spent` comes only where the file has so many bytes with the first of what waited, and a batch more
+///   could make it longer than 2^64 - 1 bytes.
 pub(crate) fn write_log<D: NodeDisk>(wal: &mut Wal<D>, alloc: Global) -> Result<bool, Memory>
     requires sound { IsSound D.facts wal.old }
     requires going { wal.old.stopped ≡ false }
@@ -58,7 +58,7 @@ pub(crate) fn write_log<D: NodeDisk>(wal: &mut Wal<D>, alloc: Global) -> Result<
         wal.old.waiting.items (D.facts.past wal.old.disk) (D.facts.past wal.new.disk) }
     ensures failed { IfOk result (λ more. more ≡ false →
         Rose (D.facts.faults wal.old.disk) (D.facts.faults wal.new.disk)) }
-    ensures cause { IfErr result (IsLongGoing wal.new) }
+    ensures cause { IfErr result (IsLong wal.old wal.old.waiting.items) }
 {
     match append_all(wal, alloc) {
         Ok(()) => Ok(true),

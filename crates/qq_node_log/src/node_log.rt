@@ -3,6 +3,7 @@ ghost use Rattle.std.specs.Prelude.{◌≡◌, true, false, IsTrue, IfOk, IfErr}
 ghost use Rattle.qq_base.specs.Causes.{Rose};
 ghost use Rattle.qq_disk.specs.Disk.{now};
 ghost use Rattle.qq_lots.specs.Lots.{Lot, Parts, give_batch, keep_all};
+ghost use Rattle.qq_wal_chain.specs.Laws.{op_records};
 ghost use Rattle.qq_node_log.specs.declared.syncing.SyncOutcome.TheVariants.{Whole};
 ghost use Rattle.qq_node_log.specs.Batches.{IsLong, IsLongIn, IsLongOn};
 ghost use Rattle.qq_node_log.specs.Log.{IsLater, IsRunningIn, disk_in, is_open};
@@ -44,10 +45,10 @@ fn append_open<D: NodeDisk>(wal: &mut Wal<D>, alloc: Global, ops: Vec<Op>) -> Re
         (NodeLog.Open wal.old) (NodeLog.Open wal.new) }
     ensures failed { IfOk result (λ more. more ≡ false →
         Rose (D.facts.faults wal.old.disk) (D.facts.faults wal.new.disk)) }
-    ensures spent { IfErr result (IsLong wal.new) }
+    ensures spent { IfErr result (IsLong wal.old (op_records ops.items)) }
     ensures later { IsLater D.facts wal.old.disk wal.new.disk }
     ensures shown { IsTrue (D.facts.tells wal.old.disk) → IfErr result (λ memory.
-        IsLongOn memory (now (D.facts.past wal.new.disk))) }
+        IsLongOn memory ops.items (now (D.facts.past wal.old.disk))) }
 {
     if let Err(memory) = gather_all(wal, ops) {
         return Err(memory);
@@ -70,10 +71,10 @@ fn sync_open<D: NodeDisk>(wal: &mut Wal<D>, alloc: Global) -> Result<SyncOutcome
         (NodeLog.Open wal.old) (NodeLog.Open wal.new) }
     ensures failed { IfOk result
         (FailsByCount (D.facts.faults wal.old.disk) (D.facts.faults wal.new.disk)) }
-    ensures spent { IfErr result (IsLast wal.new) }
+    ensures spent { IfErr result (IsLast wal.old) }
     ensures later { IsLater D.facts wal.old.disk wal.new.disk }
     ensures shown { IsTrue (D.facts.tells wal.old.disk) → IfErr result (λ memory.
-        IsLastOn memory (now (D.facts.past wal.new.disk))) }
+        IsLastOn memory (now (D.facts.past wal.old.disk))) }
 {
     match sync_log(wal, alloc) {
         Ok(outcome) => Ok(outcome),
@@ -109,8 +110,8 @@ impl<D: NodeDisk> NodeLog<D> {
     /// - `moments`: at each moment, whatever the answer is, the disk keeps what was promised, with these ops
     ///   among the given ones.
     /// - `later`: whatever the answer is, the disk tells its contents as before, and moments came.
-    /// - `spent`, `shown`: there was no memory, or one batch more could make the log's file longer than 2^64 - 1
-    ///   bytes. A disk that tells its contents has a log file of so many bytes.
+    /// - `spent`, `shown`: there was no memory, or the log's file has so many bytes with the first of these ops, and
+    ///   one batch more could make it longer than 2^64 - 1 bytes. On a disk that tells its contents a log file has.
     pub fn append(&mut self, alloc: Global, ops: Vec<Op>) -> Result<bool, Memory>
         requires { MayAppend D.facts ops.items self.old }
         ensures same { KeepsDisk D.facts self.old self.new }
@@ -120,10 +121,10 @@ impl<D: NodeDisk> NodeLog<D> {
             self.old self.new }
         ensures failed { IfOk result (λ more. more ≡ false →
             Rose (D.facts.faults (disk_in self.old)) (D.facts.faults (disk_in self.new))) }
-        ensures spent { IfErr result (IsLongIn self.new) }
+        ensures spent { IfErr result (IsLongIn self.old ops.items) }
         ensures later { IsLater D.facts (disk_in self.old) (disk_in self.new) }
         ensures shown { IsTrue (D.facts.tells (disk_in self.old)) → IfErr result (λ memory.
-            IsLongOn memory (now (D.facts.past (disk_in self.new)))) }
+            IsLongOn memory ops.items (now (D.facts.past (disk_in self.old)))) }
     {
         match self {
             NodeLog::Open(wal) => append_open(wal, alloc, ops),
@@ -140,8 +141,8 @@ impl<D: NodeDisk> NodeLog<D> {
     /// - `moments`: at each moment, whatever the answer is, the disk keeps what was promised.
     /// - `failed`: where it didn't come to its end, the disk's count of faults rose.
     /// - `later`: whatever the answer is, the disk tells its contents as before, and moments came.
-    /// - `spent`, `shown`: there was no memory, or the greatest number of a log file is at its end. On a disk that
-    ///   tells its contents it is that of a log file, and none has a greater one.
+    /// - `spent`, `shown`: there was no memory, or the greatest number of a log file was at its end. On a disk that
+    ///   tells its contents it was that of a log file, and none had a greater one.
     pub fn sync(&mut self, alloc: Global) -> Result<SyncOutcome, Memory>
         requires { MaySync D.facts self.old }
         ensures same { KeepsDisk D.facts self.old self.new }
@@ -153,10 +154,10 @@ impl<D: NodeDisk> NodeLog<D> {
             self.old self.new }
         ensures failed { IfOk result (FailsByCount (D.facts.faults (disk_in self.old))
             (D.facts.faults (disk_in self.new))) }
-        ensures spent { IfErr result (IsLastIn self.new) }
+        ensures spent { IfErr result (IsLastIn self.old) }
         ensures later { IsLater D.facts (disk_in self.old) (disk_in self.new) }
         ensures shown { IsTrue (D.facts.tells (disk_in self.old)) → IfErr result (λ memory.
-            IsLastOn memory (now (D.facts.past (disk_in self.new)))) }
+            IsLastOn memory (now (D.facts.past (disk_in self.old)))) }
     {
         match self {
             NodeLog::Open(wal) => sync_open(wal, alloc),

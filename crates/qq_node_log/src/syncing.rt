@@ -5,7 +5,7 @@ ghost use Rattle.qq_disk.specs.Disk.{now};
 ghost use Rattle.qq_wal.specs.Running.{Stays, StillHolds};
 ghost use Rattle.qq_wal.specs.Wal.{IsSound};
 ghost use Rattle.qq_node_log.specs.Log.{SameLog};
-ghost use Rattle.qq_node_log.specs.Syncing.{Comes, FailsByCount, GoesOnAs, GoesOnAt, IsLast, Leaves};
+ghost use Rattle.qq_node_log.specs.Syncing.{Comes, FailsByCount, GoesOnAs, IsLast, Leaves};
 
 use qq_base::Memory;
 use qq_disk::NodeDisk;
@@ -40,8 +40,7 @@ fn begin_next<D: NodeDisk>(wal: &mut Wal<D>, alloc: Global, full: bool) -> Resul
     ensures clean { wal.new.dirty ≡ false }
     ensures failed { IfOk result (λ more. more ≡ false →
         Rose (D.facts.faults wal.old.disk) (D.facts.faults wal.new.disk)) }
-    ensures cause { IfErr result (IsLast wal.new) }
-    ensures going_on { IsTrue (D.facts.tells wal.old.disk) → IfErr result (GoesOnAt wal.new) }
+    ensures cause { IfErr result (IsLast wal.old) }
 {
     if !full {
         return Ok(true);
@@ -63,8 +62,7 @@ fn begin_next<D: NodeDisk>(wal: &mut Wal<D>, alloc: Global, full: bool) -> Resul
 /// - `leaves`: where the answer is `Whole`, a file that was full is replaced, and no other; where it is `Nothing`,
 ///   nothing counts as synced that didn't before.
 /// - `failed`: where it didn't come to its end, the disk's count of faults rose.
-/// - `cause`, `going_on`: `Spent` comes only where the greatest number of a log file is at its end, and no call of
-///   the disk has failed.
+/// - `cause`: `Spent` comes only where the greatest number of a log file was at its end.
 pub(crate) fn sync_log<D: NodeDisk>(wal: &mut Wal<D>, alloc: Global) -> Result<SyncOutcome, Memory>
     requires sound { IsSound D.facts wal.old }
     requires going { wal.old.stopped ≡ false }
@@ -77,8 +75,7 @@ pub(crate) fn sync_log<D: NodeDisk>(wal: &mut Wal<D>, alloc: Global) -> Result<S
     ensures leaves { IfOk result (λ outcome. Leaves outcome wal.old wal.new) }
     ensures failed { IfOk result
         (FailsByCount (D.facts.faults wal.old.disk) (D.facts.faults wal.new.disk)) }
-    ensures cause { IfErr result (IsLast wal.new) }
-    ensures going_on { IsTrue (D.facts.tells wal.old.disk) → IfErr result (GoesOnAt wal.new) }
+    ensures cause { IfErr result (IsLast wal.old) }
 {
     let full = wal.full();
     match wal.sync_batch(alloc) {

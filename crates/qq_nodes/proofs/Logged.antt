@@ -70,9 +70,9 @@ module _ {D : Type 0} {facts : DiskFacts D} where
 
   pub appended-spent : (ops : List Op) (x : Node D) (before behind : NodeLog D) (result : Result Bool Memory)
       → x.log ≡ Some before → KeepsDisk facts before behind → IsLater facts (disk_in before) (disk_in behind)
-      → CallKeeps facts (λ (lot : Lot). give_batch lot ops) before behind → IfErr result (IsLongIn behind)
+      → CallKeeps facts (λ (lot : Lot). give_batch lot ops) before behind → IfErr result (IsLongIn before ops)
       → (IsTrue (facts.tells (disk_in before))
-      → IfErr result (λ (memory : Memory). IsLongOn memory (now (facts.past (disk_in behind)))))
+      → IfErr result (λ (memory : Memory). IsLongOn memory ops (now (facts.past (disk_in before)))))
       → IfErr result (λ (memory : Memory). AppendsInPart facts ops memory x (record x { log = Some behind }))
   appended-spent ops x before behind (Ok more) was same later moments long shown = tt
   appended-spent ops x before behind (Err memory) was same later moments long shown = record {
@@ -98,9 +98,9 @@ module _ {D : Type 0} {facts : DiskFacts D} where
 
   pub synced-spent : (x : Node D) (before behind : NodeLog D) (result : Result SyncOutcome Memory) → x.log ≡ Some before
       → KeepsDisk facts before behind → IsLater facts (disk_in before) (disk_in behind)
-      → CallKeeps facts (λ (lot : Lot) (parts : Parts). parts) before behind → IfErr result (IsLastIn behind)
+      → CallKeeps facts (λ (lot : Lot) (parts : Parts). parts) before behind → IfErr result (IsLastIn before)
       → (IsTrue (facts.tells (disk_in before))
-      → IfErr result (λ (memory : Memory). IsLastOn memory (now (facts.past (disk_in behind)))))
+      → IfErr result (λ (memory : Memory). IsLastOn memory (now (facts.past (disk_in before)))))
       → IfErr result (λ (memory : Memory). SyncsInPart facts memory x (record x { log = Some behind }))
   synced-spent x before behind (Ok outcome) was same later moments last shown = tt
   synced-spent x before behind (Err memory) was same later moments last shown = record {

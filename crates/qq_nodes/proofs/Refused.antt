@@ -23,8 +23,8 @@ use Rattle.qq_cluster_queue.specs.Members.{AreSound, IsStepCaused, Members, own_
 use Rattle.qq_cluster_queue.specs.Sessions.{numbers_of}
 use Rattle.qq_cluster_queue.specs.declared.cluster_queue.ClusterQueue.{ClusterQueue}
 use Rattle.qq_nodes.specs.Asking.{asked}
-use Rattle.qq_nodes.specs.Ends.{InQueue, IsAskCaused, IsAtEnd, IsRefusedAt}
-use Rattle.qq_nodes.specs.Nodes.{GaveUp, seen}
+use Rattle.qq_nodes.specs.Ends.{IsAskCaused, IsAtEnd, IsRefusedAt}
+use Rattle.qq_nodes.specs.Nodes.{GaveUp, InQueue, seen}
 use Rattle.qq_nodes.specs.declared.asking.Ask.{Ask}
 use Rattle.qq_nodes.specs.declared.asking.Ask.TheVariants.{Submit, TellEnded, TellNotTaken, Attach, Resend, Fetch, Down, Tick, Notice, Deliver, Lose, Copy}
 use Rattle.qq_nodes.specs.declared.nodes.Nodes.{Nodes as Held}

@@ -14,8 +14,8 @@ use Rattle.qq_cluster_laws.specs.Unseen.{seen_by}
 use Rattle.qq_cluster_laws.proofs.Reached.{reached-after}
 use Rattle.qq_cluster_laws.proofs.Serves.{ShowsOne, gives_up-behind, gives_up-same, leads-more, leads-start, serves-both, serves-nothing, serves-unseen, serves-weaker}
 use Rattle.qq_nodes.specs.Active.{AreRising}
-use Rattle.qq_nodes.specs.Ends.{IsAtEnd, NumberAt}
-use Rattle.qq_nodes.specs.Nodes.{Begins, CanServe, EndsAt, GaveUp, HaveLogs, LeadsIn, Served, Stands, node_at, places_in, seen, seen_in}
+use Rattle.qq_nodes.specs.Ends.{IsAtEnd}
+use Rattle.qq_nodes.specs.Nodes.{Begins, CanServe, EndsAt, GaveUp, HaveLogs, LeadsIn, NumberAt, Served, Stands, node_at, places_in, seen, seen_in}
 use Rattle.qq_nodes.specs.declared.node.Node.{Node}
 use Rattle.qq_nodes.specs.declared.nodes.Nodes.{Nodes as Held}
 use Rattle.qq_nodes.proofs.Outcomes.{no_outcome, outcome_after}

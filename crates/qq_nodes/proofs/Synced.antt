@@ -14,7 +14,6 @@ use Rattle.qq_base.specs.declared.memory.Memory.{Memory}
 use Rattle.qq_base.specs.declared.memory.Memory.TheVariants.{Spent, Want}
 use Rattle.qq_disk.specs.Disk.{now}
 use Rattle.qq_disk.specs.Facts.{DiskFacts}
-use Rattle.qq_disk.proofs.Stored.{still_tells}
 use Rattle.qq_disk.specs.Moments.{Adds}
 use Rattle.qq_disk.proofs.Moments.{adds-now}
 use Rattle.qq_lots.specs.Lots.{Lot, Part, Parts, keep_all}
@@ -45,9 +44,9 @@ use Rattle.qq_node_log.proofs.Running.{running-same}
 use Rattle.qq_cluster.specs.Outcome.{Outcome}
 use Rattle.qq_nodes.specs.Showing.{with_line}
 use Rattle.qq_nodes.specs.Active.{is_in}
-use Rattle.qq_nodes.specs.Ends.{InNumbers, IsAtEnd}
+use Rattle.qq_nodes.specs.Ends.{IsAtEnd}
 use Rattle.qq_nodes.specs.Logs.{ChangesLog, MaySyncAt, NodeTurns, Syncs, SyncsInPart}
-use Rattle.qq_nodes.specs.Nodes.{CanServe, GaveUp, HaveLogs, IsNodeOf, Served, Stands, seen}
+use Rattle.qq_nodes.specs.Nodes.{CanServe, GaveUp, HaveLogs, InNumbers, IsNodeOf, Served, Stands, seen}
 use Rattle.qq_nodes.specs.Turning.{HasStopped, HasTurned}
 use Rattle.qq_nodes.specs.declared.node.Node.{Node}
 use Rattle.qq_nodes.specs.declared.nodes.Nodes.{Nodes as Held}
@@ -526,17 +525,16 @@ module _ {D : Type 0} {facts : DiskFacts D} where
       gives_up = left k old nodes low high up turn.old turn.new after_log turn.here turn.is turn.turns.change;
       logs = λ setup c r st. left-logs (SyncsInPart facts memory) turn turn.turns.change setup c st;
       spent = λ number is setup c r st.
-          (let last : IsLastIn turn.turns.change.behind (Spent number) =
-          subst (IsLastIn turn.turns.change.behind) is turn.turns.last in
+          (let last : IsLastIn turn.turns.change.before (Spent number) =
+          subst (IsLastIn turn.turns.change.before) is turn.turns.last in
           let more : Allowed (IsSync setup k) c = total-sync setup k c in
           let ch : ChangesLog facts (λ (lot : Lot) (parts : Parts). parts) turn.old turn.new =
           turn.turns.change in
           ends-now setup (IsSync setup k) old c number st more
-          (InNumbers (k - 1) ch.before (disk_in ch.behind)
-          (record { node = turn.old; here = turn.here; is = ch.was }) ch.later
-          (λ tell. subst (λ (m : Memory). IsLastOn m (now (facts.past (disk_in ch.behind)))) is
-          (turn.turns.shown (still_tells (sym ch.later.told) tell))))
-          (last-ends ch.behind number last));
+          (InNumbers (k - 1) ch.before (record { node = turn.old; here = turn.here; is = ch.was })
+          (λ tell. subst (λ (m : Memory). IsLastOn m (now (facts.past (disk_in ch.before)))) is
+          (turn.turns.shown tell)))
+          (last-ends ch.before number last));
     }
 
     -- the disk failed, and there was no memory to say so

@@ -11,7 +11,6 @@ use Rattle.qq_base.specs.declared.memory.Memory.{Memory}
 use Rattle.qq_base.specs.declared.memory.Memory.TheVariants.{Spent, Want}
 use Rattle.qq_disk.specs.Disk.{now}
 use Rattle.qq_disk.specs.Facts.{DiskFacts}
-use Rattle.qq_disk.proofs.Stored.{still_tells}
 use Rattle.qq_log.specs.Op.{queue}
 use Rattle.qq_log.specs.Stable.{stable}
 use Rattle.qq_log.specs.declared.op.Op.{Op}
@@ -28,12 +27,12 @@ use Rattle.qq_cluster.proofs.Takerless.{untold-still}
 use Rattle.qq_cluster.specs.Rules.{IsNothing, IsWrite, IsWritten, is_quiet, some_queue, waits_written}
 use Rattle.qq_cluster_laws.specs.Linked.{IsReached, lot_of, parts_at}
 use Rattle.qq_cluster_laws.specs.Serves.{GivesUp}
-use Rattle.qq_cluster_laws.specs.Waiting.{AllWait, ops_waiting}
+use Rattle.qq_cluster_laws.specs.Waiting.{AllWait, all_waiting, ops_waiting}
 use Rattle.qq_cluster_laws.proofs.Calls.{write-broken, write_failed-traced, written-traced}
 use Rattle.qq_cluster_laws.proofs.Links.{failed-follow, writes-follow}
 use Rattle.qq_cluster_laws.proofs.Waiting.{all-listed, all-wait, gives-waiting}
 use Rattle.qq_cluster_queue.specs.Sessions.{standings}
-use Rattle.qq_node_log.specs.Batches.{IsLongIn, IsLongOn}
+use Rattle.qq_node_log.specs.Batches.{HasLongLog, IsLongIn, IsLongOn}
 use Rattle.qq_node_log.specs.Giving.{MayGive}
 use Rattle.qq_node_log.specs.Log.{IsRunningIn, disk_in}
 use Rattle.qq_node_log.specs.declared.node_log.NodeLog.{NodeLog}
@@ -42,9 +41,9 @@ use Rattle.qq_node_log.proofs.Running.{running-same}
 use Rattle.qq_cluster.specs.Outcome.{Outcome}
 use Rattle.qq_nodes.specs.Showing.{with_line}
 use Rattle.qq_nodes.specs.Active.{is_in}
-use Rattle.qq_nodes.specs.Ends.{InFile, IsAtEnd}
+use Rattle.qq_nodes.specs.Ends.{IsAtEnd}
 use Rattle.qq_nodes.specs.Logs.{Appends, AppendsInPart, ChangesLog, MayAppendAt, NodeTurns}
-use Rattle.qq_nodes.specs.Nodes.{CanServe, GaveUp, HaveLogs, IsNodeOf, IsSetUp, Served, Stands, seen}
+use Rattle.qq_nodes.specs.Nodes.{CanServe, GaveUp, HaveLogs, InFile, IsNodeOf, IsSetUp, Served, Stands, seen}
 use Rattle.qq_nodes.specs.Turning.{HasStopped, HasTaken}
 use Rattle.qq_nodes.specs.declared.node.Node.{Node}
 use Rattle.qq_nodes.specs.declared.nodes.Nodes.{Nodes as Held}
@@ -67,10 +66,10 @@ GoesOn =
     (lot_of setup k).places
 
 -- a file is long at 2^63 bytes or more
-long-ends : {D : Type 0} (log : NodeLog D) (number : ℕ) → IsLongIn log (Spent number) → IsAtEnd number
-long-ends (Open wal) number long =
-    let is = long.0 in let more = long.1 in inr (omega (arith, is, more))
-long-ends (Closed disk) number long = absurd long
+long-ends : {D : Type 0} (log : NodeLog D) (ops : List Op) (number : ℕ) → IsLongIn log ops (Spent number)
+    → IsAtEnd number
+long-ends (Open wal) ops number long = let more = long.long in inr (omega (arith, more))
+long-ends (Closed disk) ops number long = absurd long
 
 -- a queue of which nothing waits is as it was
 waits-none : (k : ℕ) (q : Queue) (n : ℕ) → n ≡ 0
@@ -148,6 +147,12 @@ module _ {D : Type 0} {facts : DiskFacts D} where
         ))
 
     -- ---- the log takes the ops
+
+    waiting-at : (setup : Setup) (c : Cluster) → IsReached setup c → Stands facts setup old c
+        → ops ≡ all_waiting setup c (k - 1 + 1)
+    waiting-at setup c r st =
+        taken-waiting k old mid ops taken setup c r st (is-up setup c st) (node-there setup c st)
+        ∙ ap (all_waiting setup c) (omega (arith, low))
 
     all-waiting : (setup : Setup) (c : Cluster) → IsReached setup c → Stands facts setup old c → AllWait setup c k ops
     all-waiting setup c r st =
@@ -356,17 +361,18 @@ module _ {D : Type 0} {facts : DiskFacts D} where
       logs = λ setup c r st.
           left-logs setup c st nodes (AppendsInPart facts ops memory) turn turn.turns.change;
       spent = λ number is setup c r st.
-          (let long : IsLongIn turn.turns.change.behind (Spent number) =
-          subst (IsLongIn turn.turns.change.behind) is turn.turns.long in
+          (let long : IsLongIn turn.turns.change.before ops (Spent number) =
+          subst (IsLongIn turn.turns.change.before ops) is turn.turns.long in
           let more : Allowed (IsWrite setup k) c = total-write setup k c in
           let ch : ChangesLog facts (λ (lot : Lot). give_batch lot ops) turn.old turn.new =
           turn.turns.change in
           ends-now setup (IsWrite setup k) old c number st more
-          (InFile (k - 1) ch.before (disk_in ch.behind)
-          (record { node = turn.old; here = was-here turn.old turn.here; is = ch.was }) ch.later
-          (λ tell. subst (λ (m : Memory). IsLongOn m (now (facts.past (disk_in ch.behind)))) is
-          (turn.turns.shown (still_tells (sym ch.later.told) tell))))
-          (long-ends ch.behind number long));
+          (InFile (k - 1) ch.before (record { node = turn.old; here = was-here turn.old turn.here; is = ch.was })
+          (λ s d reached stands tell.
+          subst (λ (own : List Op). HasLongLog number own (now (facts.past (disk_in ch.before))))
+          (waiting-at s d reached stands)
+          (subst (λ (m : Memory). IsLongOn m ops (now (facts.past (disk_in ch.before)))) is (turn.turns.shown tell))))
+          (long-ends ch.before ops number long));
     }
 
     -- the disk failed, and there was no memory to say so

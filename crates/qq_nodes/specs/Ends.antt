@@ -1,23 +1,16 @@
 -- Which number of which part stands at its end, where a call is given up for it.
-use Rattle.std.specs.Prelude.{◌≡◌, ◌⊎◌, ◌≤◌, ℕ, List, Some, slice_get, IsTrue}
+use Rattle.std.specs.Prelude.{◌≡◌, ◌⊎◌, ◌≤◌, ℕ, List, Some, slice_get}
 use Rattle.qq_base.specs.Ids.{client}
 use Rattle.qq_base.specs.declared.memory.Memory.{Memory}
 use Rattle.qq_base.specs.declared.memory.Memory.TheVariants.{Want, Spent}
 use Rattle.qq_base.specs.declared.memory.TheConstants.{NUMBER_END}
-use Rattle.qq_disk.specs.Disk.{now}
-use Rattle.qq_disk.specs.Facts.{DiskFacts}
 use Rattle.qq_entry.specs.declared.command.Command.TheVariants.{Down as DownOf}
 use Rattle.qq_group.specs.Reads.{leader_of}
 use Rattle.qq_group.specs.declared.event.Event.TheVariants as events
 use Rattle.qq_raft_msg.specs.declared.bag.TheConstants.{BAG_LIMIT}
-use Rattle.qq_recover.specs.declared.fault.RecoverFault.TheVariants.{Memory as OfMemory}
-use Rattle.qq_recover.specs.Recovered.{IsSpentOn}
 use Rattle.qq_cluster_queue.specs.ClusterQueue.{IsOfferCaused, IsResendCaused, IsSubmitCaused, count_at}
 use Rattle.qq_cluster_queue.specs.Members.{IsStepCaused, IsTellingCaused, own_log}
 use Rattle.qq_cluster_queue.specs.declared.cluster_queue.ClusterQueue.{ClusterQueue}
-use Rattle.qq_node_log.specs.Batches.{HasLongLog}
-use Rattle.qq_node_log.specs.Log.{IsLater, disk_in}
-use Rattle.qq_node_log.specs.Syncing.{HasLastLog}
 use Rattle.qq_node_log.specs.declared.node_log.NodeLog.{NodeLog}
 use Rattle.qq_nodes.specs.declared.asking.Ask.{Ask}
 use Rattle.qq_nodes.specs.declared.asking.Ask.TheVariants.{Submit, TellEnded, TellNotTaken, Attach, Resend, Fetch, Down, Tick, Notice, Deliver, Lose, Copy}
@@ -54,16 +47,3 @@ pub record HasLog {D : Type 0} (at : ℕ) (held : Held D) (own : NodeLog D) : Ty
   pub node : Node D
   pub here : slice_get held.nodes.items at ≡ Some node
   pub is : node.log ≡ Some own
-
--- What the number is of: a queue that refuses what is asked of it; a node's log, whose disk after a call has a long
--- file, or the last one; or the files of a node's log, which are to be recovered.
-pub data NumberAt {D : Type 0} (facts : DiskFacts D) (held : Held D) (number : ℕ) : Type 0 where
-  InQueue : (at : ℕ) (ask : Ask) → IsRefusedAt ask at held.queues.items (Spent number)
-      → NumberAt facts held number
-  InFile : (at : ℕ) (own : NodeLog D) (left : D) → HasLog at held own → IsLater facts (disk_in own) left
-      → (IsTrue (facts.tells left) → HasLongLog number (now (facts.past left))) → NumberAt facts held number
-  InNumbers : (at : ℕ) (own : NodeLog D) (left : D) → HasLog at held own → IsLater facts (disk_in own) left
-      → (IsTrue (facts.tells left) → HasLastLog number (now (facts.past left))) → NumberAt facts held number
-  OnDisk : (at : ℕ) (own : NodeLog D) → HasLog at held own
-      → (IsTrue (facts.tells (disk_in own)) → IsSpentOn (now (facts.past (disk_in own))) (OfMemory (Spent number)))
-      → NumberAt facts held number

@@ -48,8 +48,9 @@ pub record Appends {D : Type 0} (facts : DiskFacts D) (ops : List Op) (more : Bo
 pub record AppendsInPart {D : Type 0} (facts : DiskFacts D) (ops : List Op) (memory : Memory)
     (old new : Node D) : Type 0 where
   pub change : ChangesLog facts (λ (lot : Lot). give_batch lot ops) old new
-  pub long : IsLongIn change.behind memory
-  pub shown : IsTrue (facts.tells (disk_in change.before)) → IsLongOn memory (now (facts.past (disk_in change.behind)))
+  pub long : IsLongIn change.before ops memory
+  pub shown : IsTrue (facts.tells (disk_in change.before))
+      → IsLongOn memory ops (now (facts.past (disk_in change.before)))
 
 -- what was appended is synced, as far as that came
 pub record Syncs {D : Type 0} (facts : DiskFacts D) (outcome : SyncOutcome) (old new : Node D) : Type 0 where
@@ -60,8 +61,8 @@ pub record Syncs {D : Type 0} (facts : DiskFacts D) (outcome : SyncOutcome) (old
 
 pub record SyncsInPart {D : Type 0} (facts : DiskFacts D) (memory : Memory) (old new : Node D) : Type 0 where
   pub change : ChangesLog facts (λ (lot : Lot) (parts : Parts). parts) old new
-  pub last : IsLastIn change.behind memory
-  pub shown : IsTrue (facts.tells (disk_in change.before)) → IsLastOn memory (now (facts.past (disk_in change.behind)))
+  pub last : IsLastIn change.before memory
+  pub shown : IsTrue (facts.tells (disk_in change.before)) → IsLastOn memory (now (facts.past (disk_in change.before)))
 
 -- ---- the node at an index
 

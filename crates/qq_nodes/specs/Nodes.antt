@@ -1,10 +1,11 @@
 -- Nodes as their calls see them: which cluster they stand for, and what a call has done.
-use Rattle.std.specs.Prelude.{◌≡◌, ◌<◌, ◌≤◌, ◌+◌, ℕ, zero, suc, true, false, List, [], ◌++◌, Option, Some, None, drop, length, slice_get}
+use Rattle.std.specs.Prelude.{◌≡◌, ◌<◌, ◌≤◌, ◌+◌, ℕ, zero, suc, true, false, List, [], ◌++◌, Option, Some, None, IsTrue, drop, length, slice_get}
 use Rattle.std.specs.List.{AllByRecursion, range_with_len}
 use Rattle.qq_base.specs.declared.ids.NodeId.{NodeId}
 use Rattle.qq_base.specs.declared.ids.QueueId.{QueueId}
 use Rattle.qq_base.specs.declared.memory.Memory.{Memory}
 use Rattle.qq_base.specs.declared.memory.Memory.TheVariants.{Spent}
+use Rattle.qq_disk.specs.Disk.{now}
 use Rattle.qq_disk.specs.Facts.{DiskFacts}
 use Rattle.qq_cluster.specs.Cluster.{Cluster, ClusterEvent, Setup, members}
 use Rattle.qq_cluster.specs.ClusterLaws.{HasGroups}
@@ -12,19 +13,22 @@ use Rattle.qq_cluster.specs.Outcome.{Outcome}
 use Rattle.qq_cluster.specs.Rules.{ForEach, is_quiet}
 use Rattle.qq_cluster.specs.Texts.{is_first}
 use Rattle.qq_cluster_laws.specs.Linked.{IsReached, MembersFollow, lot_of, parts_at}
-use Rattle.qq_cluster_laws.specs.Waiting.{HasOwnGroups}
+use Rattle.qq_cluster_laws.specs.Waiting.{HasOwnGroups, all_waiting}
 use Rattle.qq_cluster_queue.specs.ClusterQueue.{Stands as IsQueue}
 use Rattle.qq_cluster_queue.specs.Members.{AreSound}
 use Rattle.qq_cluster_queue.specs.Sessions.{Standings, standings}
 use Rattle.qq_cluster_queue.specs.declared.cluster_queue.ClusterQueue.{ClusterQueue}
+use Rattle.qq_node_log.specs.Batches.{HasLongLog}
 use Rattle.qq_node_log.specs.Log.{Stands as IsLog, disk_in}
+use Rattle.qq_node_log.specs.Syncing.{HasLastLog}
 use Rattle.qq_node_log.specs.declared.node_log.NodeLog.{NodeLog}
 use Rattle.qq_log.specs.declared.limits.TheConstants.{NODE_LIMIT}
 use Rattle.qq_lots.specs.Lots.{ids_of, new_part}
 use Rattle.qq_raft_protocol.specs.Facts.{In}
 use Rattle.qq_cluster_laws.specs.Serves.{GivesUp, Leads, Seen, Serves, seen_of}
 use Rattle.qq_nodes.specs.Active.{is_in}
-use Rattle.qq_nodes.specs.Ends.{IsAtEnd, NumberAt}
+use Rattle.qq_nodes.specs.Ends.{HasLog, IsAtEnd, IsRefusedAt}
+use Rattle.qq_nodes.specs.declared.asking.Ask.{Ask}
 use Rattle.qq_nodes.specs.declared.node.Node.{Node}
 use Rattle.qq_nodes.specs.declared.nodes.Nodes.{Nodes as Held}
 
@@ -133,6 +137,20 @@ pub record Begins (Allows : Cluster → List ClusterEvent → Type 0) (c : Clust
   where
     pub rest : List ClusterEvent
     pub allowed : Allows c (events ++ rest)
+
+-- What the number is of: a queue that refuses what is asked of it; or a node's log, on whose disk a file is too long with
+-- the first of the ops that wait there, or has the last number that there is.
+pub data NumberAt {D : Type 0} (facts : DiskFacts D) (held : Held D) (number : ℕ) : Type 0 where
+  InQueue : (at : ℕ) (ask : Ask) → IsRefusedAt ask at held.queues.items (Spent number)
+      → NumberAt facts held number
+  InFile : (at : ℕ) (own : NodeLog D) → HasLog at held own
+      → ((setup : Setup) (c : Cluster) → IsReached setup c → Stands facts setup held c
+      → IsTrue (facts.tells (disk_in own))
+      → HasLongLog number (all_waiting setup c (at + 1)) (now (facts.past (disk_in own))))
+      → NumberAt facts held number
+  InNumbers : (at : ℕ) (own : NodeLog D) → HasLog at held own
+      → (IsTrue (facts.tells (disk_in own)) → HasLastLog number (now (facts.past (disk_in own))))
+      → NumberAt facts held number
 
 -- In the midst of what a rule allows a number would have to rise, and stands at its end: some first events have
 -- happened, and nodes that stand for the cluster after them have it. Each one's disk is what these events made of it.

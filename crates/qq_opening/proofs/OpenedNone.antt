@@ -14,7 +14,7 @@ use Rattle.qq_node_log.specs.declared.node_log.NodeLog.TheVariants.{Closed}
 use Rattle.qq_raft_protocol.specs.Facts.{In}
 use Rattle.qq_recover.specs.Answer.{Fails as ReadsAs}
 use Rattle.qq_recover.specs.Reading.{lanes_read, shown}
-use Rattle.qq_recover.specs.Recovered.{IsNoRefusal, IsRecoverCaused, IsSpentOn}
+use Rattle.qq_recover.specs.Recovered.{IsNoRefusal}
 use Rattle.qq_recover.specs.declared.fault.RecoverFault.{RecoverFault}
 use Rattle.qq_recover.specs.declared.fault.RecoverFault.TheVariants as recover_faults
 use Rattle.qq_setup.specs.declared.queue_row.QueueRow.{QueueRow}
@@ -24,7 +24,6 @@ use Rattle.qq_cluster.specs.ClusterLaws.{HasGroups}
 use Rattle.qq_cluster.specs.Rules.{ForEach, IsOpening, IsRestart}
 use Rattle.qq_cluster_laws.specs.Linked.{IsLinked, lot_of, parts_at}
 use Rattle.qq_cluster_laws.specs.Serves.{Seen, seen_of}
-use Rattle.qq_nodes.specs.Ends.{OnDisk}
 use Rattle.qq_nodes.specs.Nodes.{Begins, EndsAt, Stands, seen}
 use Rattle.qq_nodes.specs.Setting.{AreNew, IsSetupOver, ids_on, is_among}
 use Rattle.qq_nodes.specs.declared.node.Node.{Node}
@@ -47,6 +46,7 @@ use Rattle.qq_opening.proofs.HavingLogs.{opened-logs}
 use Rattle.qq_opening.proofs.OpenedLost.{all-give_up, back-opens, before-read, range-split, read-as}
 use Rattle.qq_opening.proofs.OpenedMore.{seen-same}
 use Rattle.qq_opening.proofs.ReadLogs.{logs-come, logs_read, read-logs}
+use Rattle.qq_opening.proofs.Recovering.{spent-end, spent-log}
 use Rattle.qq_opening.proofs.RefusedEach.{total-restart}
 use Rattle.qq_opening.proofs.RowsOf.{to-passing}
 use Rattle.qq_opening.proofs.Serving.{serves-none}
@@ -214,11 +214,10 @@ module _ {D : Type 0} {facts : DiskFacts D} (rows : List QueueRow) (old : Held D
           serves = serves-none setup (new_cluster setup) (Begins (IsOpening setup) (new_cluster setup))
               (Stands facts setup old) a no_outcome (record { rest = more.0; allowed = more.1 })
               (new-stands rows old new setup (setup-over setup rows (length old.nodes.items) logs sw groups));
-          at = OnDisk at fails.own
-              (record { node = y; here = next-was rows old new at held o node is lt y none.turn.here; is = fails.was })
-              (λ told. subst (IsSpentOn (now (facts.past (disk_in fails.own)))) is_spent (fails.spent told));
-          end = inr (subst (IsRecoverCaused (facts.faults (disk_in fails.own)) (facts.faults fails.left))
-              is_spent fails.cause);
+          at = spent-log facts at old y none.turn.new (next-was rows old new at held o node is lt y none.turn.here)
+              cause fails number is_spent;
+          end = inr (spent-end facts at old y none.turn.new
+              (next-was rows old new at held o node is lt y none.turn.here) cause fails number is_spent);
         },
         refl,
       )

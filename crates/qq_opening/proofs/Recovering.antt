@@ -1,21 +1,29 @@
 -- A node's log is recovered.
-use Rattle.std.proofs.Common.{◌≡◌, ℕ, List, Some, refl, sym, ap, subst, ◌∙◌}
-use Rattle.std.specs.Prelude.{IsTrue}
+use Rattle.std.proofs.Common.{◌≡◌, ◌≤◌, ℕ, List, Some, refl, sym, ap, subst, ◌∙◌, arith}
+use Rattle.std.specs.Prelude.{IsTrue, slice_get}
 use Rattle.qq_base.specs.declared.ids.QueueId.{QueueId}
-use Rattle.qq_disk.specs.Disk.{now}
+use Rattle.qq_base.specs.declared.memory.Memory.TheVariants.{Spent}
+use Rattle.qq_base.specs.declared.memory.TheConstants.{NUMBER_END}
+use Rattle.qq_disk.specs.Disk.{Disk, now}
 use Rattle.qq_disk.specs.Facts.{DiskFacts}
 use Rattle.qq_node_log.specs.Found.{FailsKeeping, HasFound}
 use Rattle.qq_node_log.specs.Log.{IsWhole, disk_in}
 use Rattle.qq_node_log.specs.Steps.{SameDisk}
+use Rattle.qq_node_log.specs.Syncing.{HasLastLog}
 use Rattle.qq_node_log.specs.declared.node_log.NodeLog.{NodeLog}
 use Rattle.qq_node_log.specs.declared.node_log.NodeLog.TheVariants.{Open, Closed}
 use Rattle.qq_node_log.specs.declared.recovering.Found.{Found}
 use Rattle.qq_recover.specs.Answer.{Fails}
 use Rattle.qq_recover.specs.Reading.{lanes_read, shown}
-use Rattle.qq_recover.specs.Recovered.{IsRecoverCaused, IsSpentOn}
+use Rattle.qq_recover.specs.Recovered.{IsGreatest, IsRecoverCaused, IsSpentOn}
 use Rattle.qq_recover.specs.declared.fault.RecoverFault.{RecoverFault}
+use Rattle.qq_recover.specs.declared.fault.RecoverFault.TheVariants.{Memory as OfMemory}
+use Rattle.qq_recover.proofs.Causes.{greatest-listed}
+use Rattle.qq_wal.proofs.OnDisk.{above-listed}
 use Rattle.qq_opening.specs.Taking.{FailsToRecover, MayRecover, Recovers}
+use Rattle.qq_nodes.specs.Nodes.{InNumbers, NumberAt}
 use Rattle.qq_nodes.specs.declared.node.Node.{Node}
+use Rattle.qq_nodes.specs.declared.nodes.Nodes.{Nodes as Held}
 
 -- a log that may be recovered is the node's
 pub may-read : {D : Type 0} (facts : DiskFacts D) (node : Node D) (log : NodeLog D) (queues : List QueueId) (disk : D)
@@ -68,3 +76,26 @@ module _ {D : Type 0} {facts : DiskFacts D} (old new : Node D) (own : NodeLog D)
     spent = subst (λ (d : D). IsTrue (facts.tells d) → IsSpentOn (now (facts.past d)) fault) is spent;
     cause = subst (λ (d : D). IsRecoverCaused (facts.faults d) (facts.faults left) fault) is cause;
   }
+
+-- ---- a number of the files is at its end
+
+-- the greatest number of a log file is the last one that there may be
+last-log : (d : Disk) (number : ℕ) → NUMBER_END ≤ number → IsGreatest d number → HasLastLog number d
+last-log d number end most = record {
+  there = (greatest-listed d number end most).1;
+  greatest = λ n above.
+      above-listed d most.names most.listing n (let is = most.is in omega (arith, is, above));
+  end = end;
+}
+
+module _ {D : Type 0} (facts : DiskFacts D) (at : ℕ) (held : Held D) (old new : Node D)
+    (here : slice_get held.nodes.items at ≡ Some old) (fault : RecoverFault)
+    (fails : FailsToRecover facts old new fault) (number : ℕ) (is : fault ≡ OfMemory (Spent number)) where
+  pub spent-end : NUMBER_END ≤ number
+  spent-end = subst (IsRecoverCaused (facts.faults (disk_in fails.own)) (facts.faults fails.left)) is fails.cause
+
+  pub spent-log : NumberAt facts held number
+  spent-log =
+      InNumbers at fails.own (record { node = old; here = here; is = fails.was })
+      (λ tell. last-log (now (facts.past (disk_in fails.own))) number spent-end
+      (subst (IsSpentOn (now (facts.past (disk_in fails.own)))) is (fails.spent tell)))

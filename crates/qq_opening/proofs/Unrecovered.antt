@@ -19,7 +19,7 @@ use Rattle.qq_lots.specs.Lots.{ids_of}
 use Rattle.qq_raft_model.specs.Group.{Seat}
 use Rattle.qq_recover.specs.Answer.{Fails as ReadsAs}
 use Rattle.qq_recover.specs.Reading.{lanes_read, shown}
-use Rattle.qq_recover.specs.Recovered.{IsNoRefusal, IsRecoverCaused, IsSpentOn}
+use Rattle.qq_recover.specs.Recovered.{IsNoRefusal, IsRecoverCaused}
 use Rattle.qq_recover.specs.declared.fault.RecoverFault.{RecoverFault}
 use Rattle.qq_recover.specs.declared.fault.RecoverFault.TheVariants as recover_faults
 use Rattle.qq_cluster.specs.Cluster.{Cluster, Fails, Setup, cluster_happens}
@@ -36,7 +36,6 @@ use Rattle.qq_cluster_queue.specs.declared.cluster_queue.ClusterQueue.{ClusterQu
 use Rattle.qq_node_log.specs.Log.{IsWhole, disk_in}
 use Rattle.qq_node_log.specs.Steps.{AlwaysKeeps, SameDisk}
 use Rattle.qq_node_log.specs.declared.node_log.NodeLog.TheVariants.{Closed}
-use Rattle.qq_nodes.specs.Ends.{OnDisk}
 use Rattle.qq_nodes.specs.Logs.{NodeTurns}
 use Rattle.qq_nodes.specs.Nodes.{EndsAt, HaveLogs, IsNodeAt, IsNodeOf, Served, Stands, seen}
 use Rattle.qq_opening.specs.Restarting.{Refuses, RestartsTo, lanes_at, this_node}
@@ -47,6 +46,7 @@ use Rattle.qq_opening.specs.declared.restarting.RestartFault.{RestartFault}
 use Rattle.qq_opening.specs.declared.restarting.RestartFault.TheVariants as faults_of
 use Rattle.qq_opening.proofs.FoundQueues.{down-server, not-stopped}
 use Rattle.qq_opening.proofs.OwnDisk.{disk-gives_up, disk-serves, seen-before}
+use Rattle.qq_opening.proofs.Recovering.{spent-end, spent-log}
 use Rattle.qq_opening.proofs.Serving.{serves-none}
 use Rattle.qq_nodes.proofs.OwnStands.{QueuesOf, node-was, stands-own}
 use Rattle.qq_nodes.proofs.Logged.{logs-with}
@@ -230,9 +230,8 @@ module _ {D : Type 0} {facts : DiskFacts D} (node : NodeId) (old left : Held D) 
           → EndsAt facts setup (IsRestart setup k) old c number
       ends-at number is =
           ends-now setup (IsRestart setup k) old c number st (Fails k ∷ [], fails-restart setup k c down)
-          (OnDisk (k - 1) fails.own (record { node = turn.old; here = turn.here; is = fails.was })
-          (λ told. subst (IsSpentOn (now (facts.past (disk_in fails.own)))) is (fails.spent told)))
-          (inr (subst (IsRecoverCaused (facts.faults (disk_in fails.own)) (facts.faults fails.left)) is fails.cause))
+          (spent-log facts (k - 1) old turn.old turn.new turn.here fault fails number is)
+          (inr (spent-end facts (k - 1) old turn.old turn.new turn.here fault fails number is))
 
     -- ---- as a restart leaves it
 

@@ -1,5 +1,6 @@
+use Rattle.std.proofs.lemmas.Result.{err_from_is_err_and}
 use Rattle.qq_disk.proofs.Stored.{still_tells}
-use Rattle.qq_node_log.proofs.Batching.{begun-all, begun-more, begun-none, begun-some, begun-stays, less-waits, nothing-waits}
+use Rattle.qq_node_log.proofs.Batching.{begun-all, begun-more, begun-none, begun-some, begun-stays, later-caused, less-waits, nothing-waits}
 use Rattle.qq_node_log.proofs.Same.{same-none, same-then}
 use Rattle.qq_node_log.proofs.batches.append_all.Goals as goal
 
@@ -38,6 +39,12 @@ returns-in_err-append_some-clause-stays g c = λ told.
     begun-some g.D.NodeDisk.facts c.args.wal.now c.batches.wal c.append_some.new.wal c.batches.invariant.same.queues
     c.batches.invariant.begun told
     (c.append_some.ensures.stays (still_tells c.batches.invariant.same.told told))
+
+pub returns-in_err-append_some-clause-cause : goal.returns-in_err-append_some-clause-cause
+returns-in_err-append_some-clause-cause g c =
+    let p = err_from_is_err_and c.from_residual.result c.from_residual.ensures.1 in
+    rw (p.1, p.2) (later-caused g.D.NodeDisk.facts c.args.wal.now c.batches.wal c.append_some.new.wal _
+    c.batches.invariant.begun c.batches.invariant.same.later c.in_err-append_some.ensures.cause)
 
 pub returns-clause-same : goal.returns-clause-same
 returns-clause-same g c =

@@ -1,6 +1,6 @@
-use Rattle.std.proofs.Common.{ℕ, ap}
+use Rattle.std.proofs.Common.{ap}
 use Rattle.qq_disk.specs.Image.{log_of}
-use Rattle.qq_wal.specs.declared.wal.Wal.{Wal}
+use Rattle.qq_wal_record.specs.declared.header.Header.{Header}
 use Rattle.qq_node_log.proofs.Batching.{appends-some, write-caused}
 use Rattle.qq_node_log.proofs.Same.{beside-grown, same-newest}
 use Rattle.qq_node_log.proofs.batches.append_some.Goals as goal
@@ -9,14 +9,13 @@ pub returns-in-Ok-clause-ok : goal.returns-in-Ok-clause-ok
 returns-in-Ok-clause-ok g c =
     appends-some g.D.NodeDisk.facts c.encodings_have_lengths.ensures.records c.in-Ok.count
     c.args.wal.now c.append_batch.new.self c.requires.sound.waiting c.in-Ok.ensures.batch
+    (ap (λ (h : Header). h.file) c.append_batch.ensures.file.header)
     (λ told. c.in-Ok.ensures.holds told)
 
 pub returns-in-Err-clause-cause : goal.returns-in-Err-clause-cause
 returns-in-Err-clause-cause g c =
-    write-caused ℕ g.D.NodeDisk.facts.faults c.args.wal.now.stopped
-    c.args.wal.now c.append_batch.new.self c.in-Err.fault
-    c.requires.going (ap (λ (w : Wal _). w.size) c.in-Err.ensures.err)
-    c.in-Err.ensures.stops c.in-Err.ensures.cause.cause
+    write-caused g.D.NodeDisk.facts.faults c.args.wal.now.stopped c.args.wal.now c.append_batch.new.self c.in-Err.fault
+    c.requires.going c.in-Err.ensures.cause.cause
 
 pub returns-in-Ok-clause-same : goal.returns-in-Ok-clause-same
 returns-in-Ok-clause-same g c = record {

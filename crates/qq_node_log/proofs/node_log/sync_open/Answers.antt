@@ -3,7 +3,6 @@ use Rattle.qq_node_log.specs.declared.syncing.SyncOutcome.{SyncOutcome}
 use Rattle.qq_node_log.specs.Syncing.{Comes, Leaves}
 use Rattle.qq_wal.specs.Wal.{is_full}
 use Rattle.qq_lots.specs.Lots.{ids_of}
-use Rattle.qq_disk.proofs.Stored.{still_tells}
 use Rattle.qq_node_log.proofs.Ending.{last-on}
 use Rattle.qq_node_log.proofs.Same.{same-disk, same-later}
 use Rattle.qq_node_log.proofs.Stepping.{sync-keeps, sync-runs}
@@ -45,6 +44,5 @@ returns-in-Err-clause-later g c =
 
 pub returns-in-Err-clause-shown : goal.returns-in-Err-clause-shown
 returns-in-Err-clause-shown g c = λ tell.
-    last-on g.D.NodeDisk.facts c.sync_log.new.wal c.in-Err.memory c.sync_log.ensures.same.sound
-    (still_tells c.sync_log.ensures.same.told tell) (c.sync_log.ensures.same.newest c.requires.2.newest)
-    (c.in-Err.ensures.going_on tell) c.in-Err.ensures.cause
+    last-on g.D.NodeDisk.facts c.args.wal.now c.in-Err.memory c.requires.2.sound tell c.requires.2.newest
+    c.requires.2.going c.in-Err.ensures.cause

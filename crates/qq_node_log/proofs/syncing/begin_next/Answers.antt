@@ -1,8 +1,6 @@
-use Rattle.std.proofs.Common.{ℕ, ◌+◌}
-use Rattle.qq_disk.specs.Disk.{now}
+use Rattle.std.proofs.Common.{◌+◌}
 use Rattle.qq_disk.specs.Image.{log_of}
-use Rattle.qq_node_log.proofs.Ending.{rolls-on}
-use Rattle.qq_node_log.proofs.Same.{beside-grown, kept-newest, rolled-newest, same-none}
+use Rattle.qq_node_log.proofs.Same.{beside-grown, kept-newest, rolled-newest}
 use Rattle.qq_node_log.proofs.syncing.begin_next.Goals as goal
 
 pub returns-in-Ok-clause-same : goal.returns-in-Ok-clause-same
@@ -46,9 +44,3 @@ returns-in-Err-Memory-clause-same g c = record {
       (log_of (c.args.wal.now.numbers.log + 1)) (c.roll.ensures.beside tell);
   newest = kept-newest c.args.wal.now c.roll.new.self c.in-Err-Memory.ensures.err;
 }
-
-pub returns-in-Err-Memory-clause-going_on : goal.returns-in-Err-Memory-clause-going_on
-returns-in-Err-Memory-clause-going_on g c = λ tell.
-    rolls-on ℕ c.roll.new.self (c.args.wal.now.numbers.log + 1) c.in-Err-Memory.field-0 c.in-Err-Memory.memory
-    (now (g.D.NodeDisk.facts.past c.roll.new.self.disk)) c.args.wal.now.stopped
-    c.in-Err-Memory.field-0-is c.requires.going (c.in-Err-Memory.ensures.stops tell)

@@ -5,6 +5,7 @@ use Rattle.qq_disk.specs.Disk.{now}
 use Rattle.qq_disk.specs.Image.{log_of}
 use Rattle.qq_disk.proofs.Stored.{still_tells}
 use Rattle.qq_wal.specs.Running.{Stays, StillHolds}
+use Rattle.qq_node_log.proofs.Ending.{numbers-last}
 use Rattle.qq_node_log.proofs.Same.{beside-grown, same-newest, same-then}
 use Rattle.qq_node_log.proofs.Stepping.{comes-no_file, comes-nothing, comes-whole, stays-then}
 use Rattle.qq_node_log.proofs.syncing.sync_log.Goals as goal
@@ -120,5 +121,7 @@ returns-in-Err-clause-same g c =
       newest = same-newest c.args.wal.now c.sync_batch.new.self c.sync_batch.ensures.file;
     }) c.begin_next.ensures.same
 
-pub returns-in-Err-clause-going_on : goal.returns-in-Err-clause-going_on
-returns-in-Err-clause-going_on g c = λ told. c.in-Err.ensures.going_on (still_tells c.sync_batch.ensures.told told)
+pub returns-in-Err-clause-cause : goal.returns-in-Err-clause-cause
+returns-in-Err-clause-cause g c =
+    numbers-last c.args.wal.now c.sync_batch.new.self c.in-Err.memory c.sync_batch.ensures.file.numbers
+    c.in-Err.ensures.cause
