@@ -1,5 +1,5 @@
 -- What the status of a drill tells.
-use Rattle.std.proofs.Common.{◌≡◌, ◌⊎◌, ◌++◌, ℕ, List, [], ◌∷◌, Some, None, refl, sym, ap, subst, ◌∙◌, inl, inr, arith}
+use Rattle.std.proofs.Common.{◌≡◌, ◌⊎◌, ◌++◌, ℕ, List, [], ◌∷◌, refl, ap, subst, ◌∙◌, inl, inr, arith}
 use Rattle.std.specs.Prelude.{codes}
 use Rattle.std.specs.Io.KnownBytes.{Appends, Keeps}
 use Rattle.std.specs.List.{AllByRecursion}
@@ -153,7 +153,7 @@ drill-unread met had status number nodes before later (inr so) = by so.ends
 
 -- ---- the status of each cause
 
-damage-status : (node : ℕ) (damage : Damage) → (damage_ending node damage).status ≡ 8
+pub damage-status : (node : ℕ) (damage : Damage) → (damage_ending node damage).status ≡ 8
 damage-status node (AtPlace file place) = refl
 damage-status node (OfVersion file byte) = refl
 

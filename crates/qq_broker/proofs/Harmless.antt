@@ -62,7 +62,7 @@ refused-by number ending (Err (faults_of.Memory memory)) is =
     let same : refusal number (faults_of.Memory memory) ≡ ending = cc in inl (ap (λ (e : Ending). e.status) (sym same))
 
 -- a line that ends the run by what it says is refused, or passes a limit
-said-status : (s : Setup) (before : ℕ) (input : Input) (ending : Ending) → says s before input ≡ Ends ending
+pub said-status : (s : Setup) (before : ℕ) (input : Input) (ending : Ending) → says s before input ≡ Ends ending
     → (ending.status ≡ 4) ⊎ (ending.status ≡ 11)
 said-status s before input ending is = elim (cases_lt before LINES_LIMIT) [
   | inl less ↦

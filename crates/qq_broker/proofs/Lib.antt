@@ -38,6 +38,8 @@ pub mod Fair
 pub mod Following
 pub mod Unharmed
 pub mod Harmless
+pub mod NodeEnds
+pub mod SpentRuns
 pub mod RunDisks
 pub mod RestDisks
 pub mod Stops

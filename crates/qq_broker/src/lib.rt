@@ -14,6 +14,7 @@ mod drills;
 mod dumping;
 mod faults;
 mod laws;
+mod number_laws;
 mod opening;
 mod over_disks;
 mod program;
@@ -40,6 +41,7 @@ pub use disk_laws::{
 pub use drill_laws::a_drill_tells_what_was_done;
 pub use faults::{OpenFault, StepFault};
 pub use laws::{a_dump_tells_what_was_done, a_run_without_a_root_begins_with_new_logs};
+pub use number_laws::a_number_at_its_end_is_named;
 pub use over_disks::{open_disks, reopen_disks};
 pub use program::run;
 pub use rest_laws::a_stopped_broker_keeps_what_it_has_answered;

@@ -24,3 +24,5 @@ pub mod Fetched
 pub mod Asking
 mod Leading
 mod Learning
+pub mod MemberEnds
+pub mod QueueEnds

@@ -33,3 +33,4 @@ pub mod Putting
 pub mod Stopped
 pub mod Begun
 pub mod Ticked
+pub mod AskEnds
