@@ -1,12 +1,11 @@
 -- How a drill ends that was opened.
-use Rattle.std.proofs.Common.{◌≡◌, ◌≤◌, ℕ, List, [], ◌∷◌, ◌++◌, Some, sym, ap, subst, ◌∙◌, inl, inr}
+use Rattle.std.proofs.Common.{◌≡◌, ◌≤◌, ℕ, List, [], ◌++◌, Some, sym, ap, subst, ◌∙◌, inl, inr}
 use Rattle.qq_disk.specs.Facts.{DiskFacts}
 use Rattle.qq_ports.specs.Streams.{SinkState, SourceState, Writes}
-use Rattle.qq_script_lines.specs.declared.line.ScriptLine.{ScriptLine}
 use Rattle.qq_setup.specs.declared.setup.Setup.{Setup}
 use Rattle.qq_taker.specs.Takers.{Takers, listen}
 use Rattle.qq_taker.specs.declared.heard.Heard.{Heard}
-use Rattle.qq_cluster.specs.Cluster.{ClusterEvent, Setup as ClusterSetup, all_prints, new_cluster}
+use Rattle.qq_cluster.specs.Cluster.{Setup as ClusterSetup, all_prints, new_cluster}
 use Rattle.qq_cluster.specs.Outcome.{Outcome, all_heard, deliveries_among}
 use Rattle.qq_cluster_run.proofs.Beginnings.{keeps-all}
 use Rattle.qq_cluster_run.specs.Drilling.{AreParts, Known, drill_text, first_known, is_led, know, part_lines, parts, tell}

@@ -6,7 +6,7 @@ use Rattle.qq_setup.specs.declared.setup.Setup.{Setup}
 use Rattle.qq_cluster.specs.Cluster.{ClusterEvent, Setup as ClusterSetup}
 use Rattle.qq_cluster.specs.Outcome.{Outcome}
 use Rattle.qq_cluster_run.proofs.Answering.{IsEarlier, may_stop_earlier}
-use Rattle.qq_cluster_run.specs.Drilling.{Known, begin_part, is_led, part_lines}
+use Rattle.qq_cluster_run.specs.Drilling.{Known, is_led, part_lines}
 use Rattle.qq_cluster_run.specs.Drills.{StopsNext, StopsWithin}
 use Rattle.qq_cluster_run.specs.Endings.{Ending, no_memory}
 use Rattle.qq_cluster_run.specs.Service.{HasServeCause}
@@ -20,7 +20,7 @@ use Rattle.qq_nodes.specs.declared.nodes.Nodes.{Nodes}
 use Rattle.qq_broker.specs.Drilling.{LinesServed, LinesStop, PartStops, PartsDone, PartsStop, Plays, ending_at, run_with}
 use Rattle.qq_broker.specs.Faults.{IsStepStopOf, step_stop}
 use Rattle.qq_broker.specs.Lives.{Giving}
-use Rattle.qq_broker.specs.Nodes.{Had, Holds, Meets}
+use Rattle.qq_broker.specs.Nodes.{Had, Meets}
 use Rattle.qq_broker.specs.declared.faults.StepFault.{StepFault}
 use Rattle.qq_broker.proofs.GoingOn.{had-so}
 use Rattle.qq_broker.proofs.Meeting.{meets-earlier}

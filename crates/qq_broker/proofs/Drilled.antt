@@ -1,5 +1,5 @@
 -- A drill goes on while its lines and parts are served.
-use Rattle.std.proofs.Common.{◌≡◌, ◌+◌, ◌≤◌, ℕ, Bool, List, [], ◌∷◌, ◌++◌, Some, length, refl, sym, ap, subst, ◌∙◌, inl, inr, append_assoc, append-nil, add_assoc, arith}
+use Rattle.std.proofs.Common.{◌≡◌, ◌+◌, ℕ, Bool, List, [], ◌∷◌, ◌++◌, Some, length, refl, sym, ap, subst, ◌∙◌, append_assoc, append-nil, add_assoc, arith}
 use Rattle.std.proofs.lemmas.List.{length-append}
 use Rattle.std.proofs.lemmas.List.Elements.{filter_map-append}
 use Rattle.qq_disk.specs.Facts.{DiskFacts}
@@ -12,11 +12,10 @@ use Rattle.qq_drill.specs.Drill.{Drill}
 use Rattle.qq_cluster.specs.Cluster.{Cluster, ClusterEvent, Printed, Setup as ClusterSetup, all_prints, cluster_after, new_cluster}
 use Rattle.qq_cluster.specs.Lines.{IsLine, IsScript}
 use Rattle.qq_cluster.specs.Outcome.{Outcome, all_heard, deliveries_among, heard_in, takers_after}
-use Rattle.qq_cluster.specs.Rules.{IsNothing, Then}
 use Rattle.qq_cluster.specs.Texts.{text_of}
 use Rattle.qq_cluster_run.proofs.Going.{after-both, prints-both, script-more, text-both}
 use Rattle.qq_cluster_run.proofs.Plays.{among-both, hear-both}
-use Rattle.qq_cluster_run.specs.Drilling.{AreParts, IsPart, Known, begin_part, hear_each, is_led, know, part_lines, tell}
+use Rattle.qq_cluster_run.specs.Drilling.{AreParts, Known, begin_part, is_led, know, part_lines, tell}
 use Rattle.qq_cluster_run.specs.Playing.{Knows}
 use Rattle.qq_cluster_run.specs.Serving.{Run, after_all, cluster_in, setup_in}
 use Rattle.qq_cluster_run.specs.declared.drilling.Part.{Part}
@@ -24,8 +23,8 @@ use Rattle.qq_cluster_run.specs.declared.playing.Play.{Play}
 use Rattle.qq_nodes.specs.declared.nodes.Nodes.{Nodes}
 use Rattle.qq_broker.specs.Drilling.{IsSilent, LinesServed, PartsDone, Plays, run_with}
 use Rattle.qq_broker.specs.Lives.{Giving}
-use Rattle.qq_broker.specs.Nodes.{Had, Holds}
-use Rattle.qq_broker.specs.Serving.{IsServed, run_after, with_events}
+use Rattle.qq_broker.specs.Nodes.{Holds}
+use Rattle.qq_broker.specs.Serving.{IsServed, with_events}
 
 -- a law of clusters: who listens hears what is told
 abbrev pub Hears : Type 0

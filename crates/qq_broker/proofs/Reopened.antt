@@ -12,7 +12,6 @@ use Rattle.qq_setup.specs.Setup.{state_of}
 use Rattle.qq_cluster.specs.Outcome.{Outcome}
 use Rattle.qq_cluster.specs.Cluster.{Cluster, ClusterEvent, Setup as ClusterSetup, cluster_after}
 use Rattle.qq_cluster.specs.Rules.{IsOpening}
-use Rattle.qq_cluster.specs.Texts.{text_of}
 use Rattle.qq_cluster_laws.specs.Serves.{GivesUp, Seen, Serves}
 use Rattle.qq_cluster_laws.proofs.Serves.{gives_up-behind, gives_up-same}
 use Rattle.qq_cluster_run.specs.Serving.{Run, cluster_in, setup_in}

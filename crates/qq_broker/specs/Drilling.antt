@@ -3,10 +3,10 @@ use Rattle.std.specs.Prelude.{◌≡◌, ℕ, List, [], ◌∷◌, ◌++◌, Som
 use Rattle.qq_disk.specs.Facts.{DiskFacts}
 use Rattle.qq_script_lines.specs.declared.line.ScriptLine.{ScriptLine}
 use Rattle.qq_setup.specs.declared.setup.Setup.{Setup}
-use Rattle.qq_cluster.specs.Cluster.{ClusterEvent, cluster_after}
+use Rattle.qq_cluster.specs.Cluster.{ClusterEvent}
 use Rattle.qq_cluster.specs.Lines.{IsScript}
 use Rattle.qq_cluster.specs.Outcome.{Outcome}
-use Rattle.qq_cluster_run.specs.Drilling.{AreParts, IsPart, Known, begin_part, is_led, know, part_lines}
+use Rattle.qq_cluster_run.specs.Drilling.{AreParts, Known, is_led, know, part_lines}
 use Rattle.qq_cluster_run.specs.Drills.{StopsWithin}
 use Rattle.qq_cluster_run.specs.Endings.{Ending}
 use Rattle.qq_cluster_run.specs.Playing.{Knows}

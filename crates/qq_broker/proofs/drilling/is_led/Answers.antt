@@ -1,4 +1,4 @@
-use Rattle.std.proofs.Common.{◌≡◌, ◌∙◌, sym, ap}
+use Rattle.std.proofs.Common.{◌∙◌, sym, ap}
 use Rattle.qq_cluster_run.specs.Drilling.{is_led}
 use Rattle.qq_cluster_run.specs.Serving.{cluster_in, setup_in}
 use Rattle.qq_cluster_run.specs.declared.drilling.Part.{Part}

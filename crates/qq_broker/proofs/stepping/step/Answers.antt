@@ -1,9 +1,6 @@
-use Rattle.std.proofs.Common.{◌≡◌, ap, refl, sym, subst, ◌∙◌}
+use Rattle.std.proofs.Common.{ap, refl, subst, ◌∙◌}
 use Rattle.std.specs.Global.{Vec}
-use Rattle.std.proofs.lemmas.Result.{IfErr-weaker, on_ok_weaker}
-use Rattle.qq_taker.specs.Takers.{Takers}
 use Rattle.qq_cluster.specs.Outcome.{Outcome}
-use Rattle.qq_broker.specs.Broker.{told_of}
 use Rattle.qq_broker.specs.Takers.{AsksFree, IsGoneCaused}
 use Rattle.qq_broker.proofs.Stepped.{has-stepped}
 use Rattle.qq_broker.proofs.stepping.step.Goals as goal
