@@ -1,8 +1,10 @@
 //! How many rows a queue's audit has, and how many of them confirm a publish.
-ghost use Rattle.std.specs.Prelude.{◌≡◌, ◌+◌, ◌∷◌, [], OnErr, OnOk, IsOkUnless, count_by};
+ghost use Rattle.std.specs.Prelude.{◌≡◌, ◌+◌, ◌∷◌, [], false, IfErr, OnErr, OnOk, IsOkUnless, count_by};
+ghost use Rattle.qq_base.specs.Causes.{SpentOnlyWhere};
+ghost use Rattle.qq_base.specs.declared.memory.TheConstants.{NUMBER_END};
 ghost use Rattle.qq_cluster.specs.Confirmed.{is_confirmed_row};
 ghost use Rattle.qq_cluster.specs.Queue.{audit_rows};
-ghost use Rattle.qq_model.specs.Audit.{audit_of};
+ghost use Rattle.qq_model.specs.Audit.{audit_of, stays_within};
 ghost use Rattle.qq_model.specs.State.{State, empty_queue};
 ghost use Rattle.qq_cluster_queue.specs.ClusterQueue.{OfItsQueue};
 ghost use Rattle.qq_cluster_queue.specs.Members.{queue_applied, queue_stands};
@@ -74,6 +76,8 @@ fn count_entries(
 
     ensures ok { OnOk result ((s : State) → queue_stands s machine.old →
         tally.new ≡ count_rows (audit_of s entries.now) tally.old) }
+    ensures cause { IfErr result (λ e. (s : State) → queue_stands s machine.old →
+        SpentOnlyWhere e NUMBER_END (stays_within s entries.now ≡ false)) }
 {
     let mut index: u64 = 0;
     'entries: for entry in entries {
@@ -103,8 +107,10 @@ impl ClusterQueue {
         requires stands { queue_stands (empty_queue self.now.args) machine.old }
         requires applied { queue_applied machine.old ≡ 0 }
 
-        ensures { OnOk result (OfItsQueue self.now (λ q.
+        ensures ok { OnOk result (OfItsQueue self.now (λ q.
             tally.new ≡ count_rows (audit_rows q) tally.old)) }
+        ensures cause { IfErr result (λ e. SpentOnlyWhere e NUMBER_END
+            (stays_within (empty_queue self.now.args) self.now.group.audit.items ≡ false)) }
     {
         let entries = self.group.audit();
         if let Err(cause) = count_entries(alloc, machine, entries, tally) {
@@ -113,10 +119,13 @@ impl ClusterQueue {
         Ok(())
     }
 
-    /// The rows of the audit are counted too.
+    /// The rows of the audit are counted too. `Spent` comes only where a number of the queue that the audit makes
+    /// would be past its end.
     pub fn count_rows(&self, alloc: Global, tally: &mut Tally) -> Result<(), Memory>
-        ensures { OnOk result (OfItsQueue self.now (λ q.
+        ensures ok { OnOk result (OfItsQueue self.now (λ q.
             tally.new ≡ count_rows (audit_rows q) tally.old)) }
+        ensures cause { IfErr result (λ e. SpentOnlyWhere e NUMBER_END
+            (stays_within (empty_queue self.now.args) self.now.group.audit.items ≡ false)) }
     {
         let args = match self.args.copy(alloc) {
             Ok(args) => args,

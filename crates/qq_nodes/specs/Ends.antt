@@ -2,7 +2,7 @@
 use Rattle.std.specs.Prelude.{◌≡◌, ◌⊎◌, ◌≤◌, ℕ, List, Some, slice_get}
 use Rattle.qq_base.specs.Ids.{client}
 use Rattle.qq_base.specs.declared.memory.Memory.{Memory}
-use Rattle.qq_base.specs.declared.memory.Memory.TheVariants.{Want, Spent}
+use Rattle.qq_base.specs.declared.memory.Memory.TheVariants.{Want}
 use Rattle.qq_base.specs.declared.memory.TheConstants.{NUMBER_END}
 use Rattle.qq_entry.specs.declared.command.Command.TheVariants.{Down as DownOf}
 use Rattle.qq_group.specs.Reads.{leader_of}

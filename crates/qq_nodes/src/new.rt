@@ -107,7 +107,7 @@ impl<D: NodeDisk> Nodes<D> {
     /// was begun. Nothing is read or written. The only error is `Memory::Want`, out of memory.
     ///
     /// - `ok`: whatever logs the queues begin with, these stand for the cluster.
-    /// - `new`: the nodes may be opened.
+    /// - `new`, `limit`: the nodes may be opened, with files of this length.
     /// - `empty`, `room`: the disks are in the nodes, and their list is room for them.
     /// - `err`: after an error the disks are in their list as before.
     pub fn new(
@@ -123,6 +123,7 @@ impl<D: NodeDisk> Nodes<D> {
         ensures ok { (setup : Setup) → IsSetupOver setup rows.now (length disks.old.items) →
             IfOk result (λ nodes. Stands D.facts setup nodes (new_cluster setup)) }
         ensures new { IfOk result (AreNew D.facts rows.now) }
+        ensures limit { IfOk result (λ nodes. nodes.log_bytes ≡ log_bytes) }
         ensures disks { IfOk result (HaveDisks D.facts disks.old.items) }
         ensures empty { OnOk result (disks.new.items ≡ []) }
         ensures room { vec_capacity disks.new ≡ vec_capacity disks.old }

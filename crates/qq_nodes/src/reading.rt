@@ -1,9 +1,13 @@
 //! What is read of a queue: its leader's counts, and its audit's rows.
-ghost use Rattle.std.specs.Prelude.{◌≡◌, OnOk};
+ghost use Rattle.std.specs.Prelude.{◌≡◌, false, IfErr, OnOk};
+ghost use Rattle.qq_base.specs.Causes.{SpentOnlyWhere};
+ghost use Rattle.qq_base.specs.declared.memory.TheConstants.{NUMBER_END};
 ghost use Rattle.qq_cluster.specs.Cluster.{Cluster, Setup};
 ghost use Rattle.qq_cluster.specs.Counts.{counts};
 ghost use Rattle.qq_cluster.specs.Queue.{audit_rows, has_leader};
 ghost use Rattle.qq_cluster_queue.specs.Tally.{count_rows};
+ghost use Rattle.qq_model.specs.Audit.{stays_within};
+ghost use Rattle.qq_model.specs.State.{empty_queue};
 ghost use Rattle.qq_nodes.specs.Nodes.{CanServe, IsQueueAt, Stands};
 
 use crate::nodes::Nodes;
@@ -34,12 +38,17 @@ impl<D: NodeDisk> Nodes<D> {
         self.queues[queue.0 as usize - 1].counts()
     }
 
-    /// The rows of a queue's audit are counted too.
+    /// The rows of a queue's audit are counted too. `Spent` comes only where a number of the queue that the audit
+    /// makes would be past its end.
     pub fn count_rows(&self, alloc: Global, queue: QueueId, tally: &mut Tally) -> Result<(), Memory>
         requires { IsQueueAt queue self.now }
-        ensures { OnOk result ((setup : Setup) (c : Cluster) →
+        ensures ok { OnOk result ((setup : Setup) (c : Cluster) →
             Stands D.facts setup self.now c →
             tally.new ≡ count_rows (audit_rows (c.queue queue.0)) tally.old) }
+        ensures cause { IfErr result (λ e. (setup : Setup) (c : Cluster) →
+            Stands D.facts setup self.now c → SpentOnlyWhere e NUMBER_END
+            (stays_within (empty_queue (c.queue queue.0).args) (c.queue queue.0).group.audit
+            ≡ false)) }
     {
         self.queues[queue.0 as usize - 1].count_rows(alloc, tally)
     }

@@ -38,7 +38,7 @@ loop-row-preserved g c =
           c.update.ensures;
       tallies = tallies-more disk.facts s c.args.nodes.now c.args.tally.now c.loop-row.tally c.count_rows.new.tally rows
           i row c.loop-row-test.true c.row-item.is c.loop-row.invariant.tallies
-          (λ given run h. c.in_default-count_rows.ensures (setup_in s run) (cluster_in s run) h.stands);
+          (λ given run h. c.in_default-count_rows.ensures.ok (setup_in s run) (cluster_in s run) h.stands);
     }
 
 pub returns-clause-digest : goal.returns-clause-digest

@@ -1,11 +1,12 @@
 use Rattle.std.proofs.Common.{◌+◌, ◌∷◌, [], List, drop, take, sym, ap, ◌∙◌, subst, arith}
+use Rattle.qq_base.specs.declared.memory.TheConstants.{NUMBER_END}
 use Rattle.qq_entry.specs.declared.audit.AuditRow.{AuditRow}
 use Rattle.qq_entry.specs.declared.command.Entry.{Entry}
 use Rattle.qq_model.specs.Audit.{audit_of, state_after}
 use Rattle.qq_model.specs.State.{State}
 use Rattle.qq_cluster_queue.specs.Members.{queue_stands}
 use Rattle.qq_cluster_queue.specs.Tally.{count_rows}
-use Rattle.qq_cluster_queue.proofs.Auditing.{row-next, state-next}
+use Rattle.qq_cluster_queue.proofs.Auditing.{row-next, spent-at, state-next}
 use Rattle.qq_cluster_queue.proofs.Tallies.{counted-both}
 use Rattle.qq_cluster_queue.proofs.tally.count_entries.Goals as goal
 
@@ -31,3 +32,10 @@ entries-preserved c =
           (row-next s es c.entries.entry-index e c.in-Ok.row (omega (arith, c.entries-test.true)) c.entry-item.is row.0)
           ∙ c.entries.invariant.counted s given;
     }
+
+pub returns-in-Err-clause-cause : goal.returns-in-Err-clause-cause
+returns-in-Err-clause-cause c = λ s given.
+    spent-at s c.args.entries.now c.entries.entry-index c.entry-item.result NUMBER_END c.in-Err.cause
+    (omega (arith, c.entries-test.true)) c.entry-item.is
+    (c.in-Err.ensures.cause (state_after s (take c.entries.entry-index c.args.entries.now))
+    (c.entries.invariant.stands s given))
