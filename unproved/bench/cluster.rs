@@ -1,9 +1,10 @@
 //! Serves a script of publishes over the nodes of a cluster.
 //!
-//! So many messages with bodies of BODY bytes are published to QUEUES queues in turn, over NODES nodes, in groups of as
-//! many. With SENDS 0 a pump follows each; else one follows so many, at most 256 a queue. `run` runs the program over
-//! this script; `serve` has a broker that is open serve its lines, with no opening, no audits and no end of nodes. Prints
-//! how many messages were confirmed, how many nanoseconds that took, and how many KiB of memory the process had at most.
+//! So many messages with bodies of BODY bytes are published to QUEUES queues in turn, or to the first USED of them,
+//! over NODES nodes, in groups of as many. With SENDS 0 a pump follows each; else one follows so many, at most 256
+//! a queue. `run` runs the program over this script; `serve` has a broker that is open serve its lines, with no
+//! opening, no audits and no end of nodes. Prints how many messages were confirmed, how many nanoseconds that took,
+//! and how many KiB of memory the process had at most.
 use crate::memory::most_memory;
 use crate::words::{number, word};
 use anyhow::{Result, bail, ensure};
@@ -37,6 +38,7 @@ const PLACE: Place = Place {
 struct Load {
     nodes: u64,
     queues: u64,
+    used: u64,
     body: u64,
     sends: u64,
     messages: u64,
@@ -51,7 +53,7 @@ fn script(alloc: Global, load: Load) -> Result<Vec<u8>> {
         writeln!(
             text,
             "send 1 - q{} ={}",
-            number % load.queues + 1,
+            number % load.used + 1,
             load.body
         )?;
         if load.sends > 0 && (number + 1) % load.sends == 0 {
@@ -148,9 +150,11 @@ fn serve(rt: HostRuntime, load: Load, text: &str) -> Result<(u128, usize)> {
 }
 
 pub fn run(rt: HostRuntime, words: &[String]) -> Result<()> {
+    let queues = number(words, 1)?;
     let load = Load {
         nodes: number(words, 0)?,
-        queues: number(words, 1)?,
+        queues,
+        used: if words.len() > 6 { number(words, 6)? } else { queues },
         body: number(words, 2)?,
         sends: number(words, 3)?,
         messages: number(words, 4)?,

@@ -16,7 +16,7 @@ mod words;
 use anyhow::Result;
 use std::env;
 
-const USAGE: &str = "usage: bench cluster NODES QUEUES BODY SENDS MESSAGES run|serve
+const USAGE: &str = "usage: bench cluster NODES QUEUES BODY SENDS MESSAGES run|serve [USED]
        bench definitions FILE
        bench group MEMBERS WINDOW ENTRIES BODY logs|none keep|purge
        bench inbox ops BYTES COUNT ROUNDS | marks COUNT
