@@ -11,8 +11,8 @@ use Rattle.qq_disk.specs.Facts.{DiskFacts}
 use Rattle.qq_entry.specs.declared.command.Unstamped.{Unstamped}
 use Rattle.qq_script_lines.specs.declared.line.ScriptLine.{ScriptLine}
 use Rattle.qq_script_lines.specs.declared.line.ScriptLine.TheVariants.{Nothing, Publish, Send}
-use Rattle.qq_setup.specs.declared.setup.Setup.{Setup}
-use Rattle.qq_setup.specs.Setup.{state_of}
+use Rattle.qq_route.specs.declared.setup.Setup.{Setup}
+use Rattle.qq_route.specs.Setup.{state_of}
 use Rattle.qq_cluster.specs.Outcome.{Outcome}
 use Rattle.qq_cluster.specs.Cluster.{Cluster, ClusterEvent, Setup as ClusterSetup}
 use Rattle.qq_cluster.specs.Lines.{AndPumped, IsLine, IsRouted, publish_with}

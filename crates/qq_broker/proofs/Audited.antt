@@ -4,8 +4,8 @@ use Rattle.std.specs.Prelude.{Contains}
 use Rattle.qq_disk.specs.Facts.{DiskFacts}
 use Rattle.qq_ports.specs.Streams.{SinkState, Writes, WritesPart}
 use Rattle.qq_script.specs.Audit.{audit_text}
-use Rattle.qq_setup.specs.declared.queue_row.QueueRow.{QueueRow}
-use Rattle.qq_setup.specs.declared.setup.Setup.{Setup}
+use Rattle.qq_route.specs.declared.queue_row.QueueRow.{QueueRow}
+use Rattle.qq_route.specs.declared.setup.Setup.{Setup}
 use Rattle.qq_cluster.specs.Cluster.{Cluster, Setup as ClusterSetup}
 use Rattle.qq_cluster.specs.Queue.{audit_rows}
 use Rattle.qq_cluster.specs.Texts.{audits_text}

@@ -21,9 +21,9 @@ use Rattle.qq_log.specs.declared.op.Op.TheVariants.{Change, SnapshotMade, Segmen
 use Rattle.qq_ports.specs.Yard.{IsNew, IsOpened}
 use Rattle.qq_raft_msg.specs.Rpc.{IsNode}
 use Rattle.qq_raft_protocol.specs.Facts.{In}
-use Rattle.qq_setup.specs.declared.queue_row.QueueRow.{QueueRow}
-use Rattle.qq_setup.specs.declared.setup.Setup.{Setup}
-use Rattle.qq_setup.specs.Members.{member, members}
+use Rattle.qq_route.specs.declared.queue_row.QueueRow.{QueueRow}
+use Rattle.qq_route.specs.declared.setup.Setup.{Setup}
+use Rattle.qq_route.specs.Members.{member, members}
 use Rattle.qq_cluster.specs.Cluster.{new_cluster}
 use Rattle.qq_cluster.specs.ClusterLaws.{HasGroups}
 use Rattle.qq_cluster.specs.Laws.{IsBegun}

@@ -11,7 +11,7 @@ use Rattle.qq_ports.specs.declared.yard_fault.YardFault.TheVariants as yard_faul
 use Rattle.qq_script_lines.specs.declared.line.Nodes.{Nodes as Which}
 use Rattle.qq_script_lines.specs.declared.line.Nodes.TheVariants.{All, One}
 use Rattle.qq_script_lines.specs.declared.line.ScriptLine.TheVariants.{Crash}
-use Rattle.qq_setup.specs.declared.setup.Setup.{Setup}
+use Rattle.qq_route.specs.declared.setup.Setup.{Setup}
 use Rattle.qq_cluster.specs.Cluster.{Cluster, ClusterEvent, Crashes, Printed, Setup as ClusterSetup, all_prints, cluster_happens}
 use Rattle.qq_cluster.specs.Lines.{IsLine}
 use Rattle.qq_cluster.specs.Rules.{ForEach, Is}

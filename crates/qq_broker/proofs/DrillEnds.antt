@@ -2,7 +2,7 @@
 use Rattle.std.proofs.Common.{◌≡◌, ◌≤◌, ℕ, List, [], ◌++◌, Some, sym, ap, subst, ◌∙◌, inl, inr}
 use Rattle.qq_disk.specs.Facts.{DiskFacts}
 use Rattle.qq_ports.specs.Streams.{SinkState, SourceState, Writes}
-use Rattle.qq_setup.specs.declared.setup.Setup.{Setup}
+use Rattle.qq_route.specs.declared.setup.Setup.{Setup}
 use Rattle.qq_taker.specs.Takers.{Takers, listen}
 use Rattle.qq_taker.specs.declared.heard.Heard.{Heard}
 use Rattle.qq_cluster.specs.Cluster.{Setup as ClusterSetup, all_prints, new_cluster}

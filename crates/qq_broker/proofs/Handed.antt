@@ -8,7 +8,7 @@ use Rattle.std.proofs.lemmas.Option.{slice_get_cases, slice_get_within}
 use Rattle.qq_base.specs.Causes.{Rose}
 use Rattle.qq_disk.specs.Facts.{DiskFacts}
 use Rattle.qq_raft_protocol.specs.Facts.{In}
-use Rattle.qq_setup.specs.declared.setup.Setup.{Setup}
+use Rattle.qq_route.specs.declared.setup.Setup.{Setup}
 use Rattle.qq_taker.specs.Takers.{Takers}
 use Rattle.qq_cluster.specs.Outcome.{Outcome}
 use Rattle.qq_cluster.specs.Cluster.{ClusterEvent, Setup as ClusterSetup, cluster_after, new_cluster}

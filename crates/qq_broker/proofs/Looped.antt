@@ -5,7 +5,7 @@ use Rattle.std.specs.Io.KnownBytes.{IsAtEnd}
 use Rattle.qq_disk.specs.Facts.{DiskFacts}
 use Rattle.qq_ports.specs.Lines.{BeginsTooLong, FirstLineLeads, LosesPiece, LosesSome, TakesLine, ahead, first_line}
 use Rattle.qq_ports.specs.Streams.{SinkState, Streams, Writes, WritesPart}
-use Rattle.qq_setup.specs.declared.setup.Setup.{Setup}
+use Rattle.qq_route.specs.declared.setup.Setup.{Setup}
 use Rattle.qq_taker.specs.Takers.{Takers}
 use Rattle.qq_cluster.specs.Outcome.{Outcome}
 use Rattle.qq_cluster_run.specs.declared.stop.AskStop.{AskStop}

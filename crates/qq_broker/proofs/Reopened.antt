@@ -7,8 +7,8 @@ use Rattle.qq_disk.specs.Crash.{Remains, reopen}
 use Rattle.qq_disk.specs.declared.image.Image.{Image}
 use Rattle.qq_disk.specs.Facts.{DiskFacts}
 use Rattle.qq_raft_protocol.specs.Facts.{In}
-use Rattle.qq_setup.specs.declared.setup.Setup.{Setup}
-use Rattle.qq_setup.specs.Setup.{state_of}
+use Rattle.qq_route.specs.declared.setup.Setup.{Setup}
+use Rattle.qq_route.specs.Setup.{state_of}
 use Rattle.qq_cluster.specs.Outcome.{Outcome}
 use Rattle.qq_cluster.specs.Cluster.{Cluster, ClusterEvent, Setup as ClusterSetup, cluster_after}
 use Rattle.qq_cluster.specs.Rules.{IsOpening}

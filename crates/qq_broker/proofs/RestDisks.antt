@@ -5,7 +5,7 @@ use Rattle.qq_disk.specs.declared.image.Image.{Image}
 use Rattle.qq_disk.specs.Disk.{now}
 use Rattle.qq_disk.specs.Facts.{DiskFacts}
 use Rattle.qq_raft_protocol.specs.Facts.{In}
-use Rattle.qq_setup.specs.Setup.{SetupState}
+use Rattle.qq_route.specs.Setup.{SetupState}
 use Rattle.qq_wal_chain.specs.Image.{HasNoJunk}
 use Rattle.qq_cluster.specs.Cluster.{Crashes}
 use Rattle.qq_cluster.specs.ClusterLaws.{HasGroups}

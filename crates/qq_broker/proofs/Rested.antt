@@ -20,7 +20,7 @@ use Rattle.qq_model.specs.Audit.{audit_of, stays_within}
 use Rattle.qq_model.specs.State.{empty_queue}
 use Rattle.qq_raft_protocol.specs.Facts.{In}
 use Rattle.qq_script.specs.Audit.{audit_text}
-use Rattle.qq_setup.specs.Setup.{SetupState, state_of}
+use Rattle.qq_route.specs.Setup.{SetupState, state_of}
 use Rattle.qq_cluster.specs.Cluster.{Cluster, ClusterEvent, Crashes, Setup as ClusterSetup, cluster_after, cluster_happens, new_cluster}
 use Rattle.qq_cluster.specs.Queue.{Queue, Stops, audit_rows, happens}
 use Rattle.qq_cluster_laws.specs.Linked.{IsPromised}

@@ -10,8 +10,8 @@ use Rattle.qq_script_lines.specs.declared.line.ScriptLine.{ScriptLine}
 use Rattle.qq_script_lines.specs.declared.line.ScriptLine.TheVariants.{Pump}
 use Rattle.qq_taker.specs.Takers.{Takers}
 use Rattle.qq_defs.specs.Runnable.{IsRunnable}
-use Rattle.qq_setup.specs.declared.setup.Setup.{Setup}
-use Rattle.qq_setup.specs.Setup.{SetupState}
+use Rattle.qq_route.specs.declared.setup.Setup.{Setup}
+use Rattle.qq_route.specs.Setup.{SetupState}
 use Rattle.qq_cluster.specs.Cluster.{Cluster, ClusterEvent, Setup as ClusterSetup, cluster_after}
 use Rattle.qq_cluster.specs.Queue.{Queue}
 use Rattle.qq_cluster.specs.Rules.{IsOpening, is_idle}

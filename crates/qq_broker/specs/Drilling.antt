@@ -2,7 +2,7 @@
 use Rattle.std.specs.Prelude.{◌≡◌, ℕ, List, [], ◌∷◌, ◌++◌, Some}
 use Rattle.qq_disk.specs.Facts.{DiskFacts}
 use Rattle.qq_script_lines.specs.declared.line.ScriptLine.{ScriptLine}
-use Rattle.qq_setup.specs.declared.setup.Setup.{Setup}
+use Rattle.qq_route.specs.declared.setup.Setup.{Setup}
 use Rattle.qq_cluster.specs.Cluster.{ClusterEvent}
 use Rattle.qq_cluster.specs.Lines.{IsScript}
 use Rattle.qq_cluster.specs.Outcome.{Outcome}

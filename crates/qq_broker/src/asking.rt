@@ -13,8 +13,8 @@ use qq_base::{Bytes, Duplicate, Memory, SessionId, Text};
 use qq_cluster_queue::Told;
 use qq_disk::NodeDisk;
 use qq_nodes::Nodes;
+use qq_route::Setup;
 use qq_script_lines::ScriptLine;
-use qq_setup::Setup;
 use qq_taker::Taker;
 use std::alloc::Global;
 

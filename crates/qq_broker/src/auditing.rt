@@ -13,7 +13,7 @@ use qq_cluster_run::PrintFault;
 use qq_disk::NodeDisk;
 use qq_nodes::Nodes;
 use qq_ports::{Failed, Sink, write_all};
-use qq_setup::Setup;
+use qq_route::Setup;
 use std::alloc::Global;
 
 // How long a text becomes before it is written.

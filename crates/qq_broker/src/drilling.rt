@@ -19,8 +19,8 @@ use qq_cluster_run::{AskStop, Part, Play, is_named, is_place};
 use qq_disk::NodeDisk;
 use qq_nodes::Nodes;
 use qq_ports::Yard;
+use qq_route::Setup;
 use qq_script_lines::ScriptLine;
-use qq_setup::Setup;
 use qq_taker::Taker;
 use std::alloc::Global;
 

@@ -24,7 +24,7 @@ use qq_cluster_run::{Ending, Part, Play, Stop, drill_setup, parts, summary};
 use qq_disk::NodeDisk;
 use qq_nodes::Nodes;
 use qq_ports::{Sink, Yard, write_all};
-use qq_setup::Setup;
+use qq_route::Setup;
 use qq_taker::{Desk, Taker};
 use qq_words::NodeCount;
 use sha2::{Digest, Sha256};

@@ -14,7 +14,7 @@ ghost use Rattle.qq_raft_model.specs.Server.{Input, step};
 ghost use Rattle.qq_raft_model.specs.State.{Server};
 ghost use Rattle.qq_raft_protocol.specs.Facts.{In};
 ghost use Rattle.qq_session.specs.Publishing.{open_commands};
-ghost use Rattle.qq_setup.specs.declared.setup.Setup.{Setup as ScriptSetup};
+ghost use Rattle.qq_route.specs.declared.setup.Setup.{Setup as ScriptSetup};
 ghost use Rattle.qq_cluster.specs.Cluster.{ClusterEvent, Setup, cluster_after, new_cluster};
 ghost use Rattle.qq_cluster.specs.Queue.{leader, submits};
 ghost use Rattle.qq_cluster_laws.specs.Waiting.{all_waiting};

@@ -16,7 +16,7 @@ use qq_nodes::Nodes;
 use qq_opening::open as open_nodes;
 use qq_ports::{Yard, YardFault};
 use qq_recover::these_disks_may_be_recovered;
-use qq_setup::Setup;
+use qq_route::Setup;
 use qq_taker::Taker;
 use std::alloc::Global;
 

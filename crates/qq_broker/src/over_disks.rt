@@ -4,7 +4,7 @@ ghost use Rattle.qq_disk.specs.declared.image.Image.{Image};
 ghost use Rattle.qq_cluster_run.specs.Runs.{MayNotOpen, ending_of, stop_of};
 ghost use Rattle.qq_cluster_run.specs.Service.{HasOpened};
 ghost use Rattle.qq_cluster_run.specs.Serving.{Run, setup_in};
-ghost use Rattle.qq_setup.specs.Setup.{state_of};
+ghost use Rattle.qq_route.specs.Setup.{state_of};
 ghost use Rattle.qq_nodes.specs.Nodes.{EachHasLog};
 ghost use Rattle.qq_nodes.specs.Setting.{HaveDisks, IsWhole};
 ghost use Rattle.qq_broker.specs.Broker.{ComeBack, FailsBy, HandsBack, HasReopened, IsReopenCaused, Rests, Runs, StillKeep, crashed_events, told_of};
@@ -21,7 +21,7 @@ use qq_disk::NodeDisk;
 use qq_nodes::Nodes;
 use qq_opening::{RestartFault, open as open_nodes, reopen as reopen_nodes};
 use qq_recover::these_disks_may_be_recovered;
-use qq_setup::Setup;
+use qq_route::Setup;
 use qq_taker::{Desk, Taker};
 use std::alloc::Global;
 

@@ -27,7 +27,7 @@ use qq_cluster_run::{
 };
 use qq_nodes::Nodes;
 use qq_ports::{LineFault, Lines, Shelf, Sink, Source, Yard, lines_law, next_line, write_all};
-use qq_setup::Setup;
+use qq_route::Setup;
 use qq_taker::{Desk, Taker};
 use qq_words::{Command, Options, read_words};
 use std::alloc::Global;

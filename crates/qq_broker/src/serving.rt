@@ -3,7 +3,7 @@ ghost use Rattle.std.specs.Prelude.{◌≡◌, ◌≤◌, ◌++◌, ◌∷◌, [
 ghost use Rattle.qq_base.specs.Causes.{HasCause};
 ghost use Rattle.qq_ports.specs.Yard.{IsYardCaused};
 ghost use Rattle.qq_script_lines.specs.declared.line.ScriptLine.TheVariants.{Crash, Restart};
-ghost use Rattle.qq_setup.specs.declared.setup.Setup.{Setup as SetupOf};
+ghost use Rattle.qq_route.specs.declared.setup.Setup.{Setup as SetupOf};
 ghost use Rattle.qq_taker.specs.Takers.{Takers};
 ghost use Rattle.qq_cluster.specs.Cluster.{Crashes};
 ghost use Rattle.qq_cluster.specs.Outcome.{Outcome};
@@ -25,8 +25,8 @@ use qq_disk::{Image, NodeDisk};
 use qq_nodes::{Nodes, crash_node};
 use qq_opening::{RestartFault, restart as restart_node, restart_each};
 use qq_ports::{Yard, YardFault};
+use qq_route::Setup;
 use qq_script_lines::{Nodes as Which, ScriptLine};
-use qq_setup::Setup;
 use qq_taker::{Desk, Taker};
 use std::alloc::Global;
 

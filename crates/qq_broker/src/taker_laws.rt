@@ -1,6 +1,6 @@
 //! What becomes of the takers of a run, as laws: the functions do nothing, and their contracts are the laws.
 ghost use Rattle.std.specs.Prelude.{◌≡◌, ◌++◌, ◌∷◌, ℕ, List, false, true};
-ghost use Rattle.qq_setup.specs.declared.setup.Setup.{Setup as ScriptSetup};
+ghost use Rattle.qq_route.specs.declared.setup.Setup.{Setup as ScriptSetup};
 ghost use Rattle.qq_taker.specs.Takers.{Takers, is_free};
 ghost use Rattle.qq_cluster.specs.Cluster.{At, ClusterEvent, Setup, new_cluster};
 ghost use Rattle.qq_cluster.specs.Outcome.{takers_after};

@@ -12,7 +12,7 @@ use Rattle.qq_entry.specs.declared.command.Mode.TheVariants.{Prefetch}
 use Rattle.qq_entry.specs.declared.command.Unstamped.TheVariants.{Cancel, Get, Settle, Subscribe}
 use Rattle.qq_entry.specs.Queue.{default_args}
 use Rattle.qq_raft_model.specs.Group.{new_group}
-use Rattle.qq_setup.specs.Members.{members}
+use Rattle.qq_route.specs.Members.{members}
 use Rattle.qq_script_lines.specs.declared.line.Nodes.TheVariants.{One}
 use Rattle.qq_script_lines.specs.declared.line.ScriptLine.{ScriptLine}
 use Rattle.qq_script_lines.specs.declared.line.ScriptLine.TheVariants.{Publish, Send, Client, Attach, Resend, Mute, Pace, Pump, Write, Sync, Notice, Tick, Deliver, Lose, Crash, Restart, Show}

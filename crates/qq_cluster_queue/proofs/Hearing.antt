@@ -14,7 +14,6 @@ use Rattle.qq_entry.specs.declared.answer.Delivery.{Delivery}
 use Rattle.qq_entry.specs.declared.audit.AuditRow.{AuditRow}
 use Rattle.qq_entry.specs.declared.audit.Effect.{Effect}
 use Rattle.qq_entry.specs.declared.audit.Effect.TheVariants.{Deliver, DeadOnce, Offer}
-use Rattle.qq_script.specs.Text.{seq_of}
 use Rattle.qq_session.specs.Publishing.{Numbers, answer, closes, new_numbers}
 use Rattle.qq_session.specs.Clients.{Client, Clients, hear_all, hear_by, is_printed, printed, take_answer}
 use Rattle.qq_session.specs.Shown.{Answered, Shown, is_delivered_to}
@@ -26,6 +25,7 @@ use Rattle.qq_cluster_queue.specs.Waiting.{handed_to}
 use Rattle.qq_cluster_queue.specs.Sessions.{Standings, clients_of}
 use Rattle.qq_cluster_queue.proofs.Known.{absent-at, at, put-itself}
 use Rattle.qq_cluster_queue.proofs.Offering.{put-numbers}
+use Rattle.qq_entry.specs.Command.{seq_of}
 
 -- ---- one row
 

@@ -12,8 +12,7 @@ ghost use Rattle.qq_cluster_queue.specs.Members.{queue_applied, queue_stands};
 
 use crate::cluster_queue::ClusterQueue;
 use qq_base::{Duplicate, Index, Memory};
-use qq_entry::{AuditRow, Entry};
-use qq_entry_checks::is_in_range;
+use qq_entry::{AuditRow, Entry, is_in_range};
 use qq_raft_msg::Queue;
 use qq_raft_queues::MachineQueue;
 use qq_script::{audit_head_text, row_text};

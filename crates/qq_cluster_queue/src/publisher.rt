@@ -4,15 +4,14 @@ ghost use Rattle.std.specs.List.{AllByRecursion};
 ghost use Rattle.qq_base.specs.Ids.{client};
 ghost use Rattle.qq_base.specs.declared.memory.TheConstants.{NUMBER_END};
 ghost use Rattle.qq_model.specs.declared.TheConstants.{WINDOW};
-ghost use Rattle.qq_script.specs.Text.{seq_of};
 ghost use Rattle.qq_session.specs.Publishing.{answer, hand, is_open, new_numbers, next_command, open_commands, HasHandCause};
 ghost use Rattle.qq_session.specs.Clients.{is_used, may_hand};
 ghost use Rattle.qq_cluster_queue.specs.Range.{HasBytes, MayStamp};
+ghost use Rattle.qq_entry.specs.Command.{seq_of};
 
 use qq_base::{Memory, QueueId, SessionId};
 use qq_entry::{AuditRow, Command, Unstamped};
 use qq_model::WINDOW;
-use qq_script::seq_of;
 use qq_session::{HandFault, Publishing};
 use std::alloc::Global;
 use std::marker::Model;
@@ -94,7 +93,7 @@ impl Publisher {
     pub fn is_open(&self, row: &AuditRow) -> bool
         ensures { result ≡ is_open (seq_of row.now.entry.command) self.now }
     {
-        self.numbers.is_open(seq_of(row.entry.command.get()))
+        self.numbers.is_open(row.entry.command.get().seq_of())
     }
 
     /// Takes the answer of a row of its own.
@@ -102,6 +101,6 @@ impl Publisher {
         ensures { self.new ≡ answer (seq_of row.now.entry.command) row.now.answer self.old }
     {
         self.numbers
-            .answer(seq_of(row.entry.command.get()), &row.answer);
+            .answer(row.entry.command.get().seq_of(), &row.answer);
     }
 }

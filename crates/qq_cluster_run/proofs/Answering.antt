@@ -1,7 +1,7 @@
 -- A line is read and served.
 use Rattle.std.proofs.Common.{◌≡◌, ℕ, ◌+◌, List, [], ◌++◌, Option, Some, None, refl, inl, inr}
 use Rattle.qq_log.specs.Stable.{Stable}
-use Rattle.qq_setup.specs.declared.setup.Setup.{Setup}
+use Rattle.qq_route.specs.declared.setup.Setup.{Setup}
 use Rattle.qq_script_lines.specs.declared.line.ScriptLine.{ScriptLine}
 use Rattle.qq_script_lines.specs.declared.line.ScriptLine.TheVariants.{Attach, Crash, Restart}
 use Rattle.qq_ports.specs.Lines.{first_line, TakesLine, LosesSome, FirstLineLeads}

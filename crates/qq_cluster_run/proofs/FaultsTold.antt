@@ -7,8 +7,8 @@ use Rattle.std.proofs.lemmas.Bool.{and_from}
 use Rattle.qq_base.proofs.Lists.{AllByRecursion-in}
 use Rattle.qq_base.specs.declared.ids.NodeId.{NodeId}
 use Rattle.qq_model.proofs.Soundness.{Contains-in, in_contains}
-use Rattle.qq_setup.specs.declared.setup.Setup.{Setup}
-use Rattle.qq_setup.specs.Setup.{SetupState, plain_rows}
+use Rattle.qq_route.specs.declared.setup.Setup.{Setup}
+use Rattle.qq_route.specs.Setup.{SetupState, plain_rows}
 use Rattle.qq_log.specs.declared.op.Op.{Op}
 use Rattle.qq_log.specs.Stable.{Stable, stable}
 use Rattle.qq_raft_protocol.specs.Facts.{In}

@@ -20,7 +20,7 @@ use Rattle.qq_model.specs.Audit.{effects_of}
 use Rattle.qq_model.specs.State.{empty_queue}
 use Rattle.qq_model.proofs.SessionLemmas.{same_session-true, same_session-refl}
 use Rattle.qq_model.proofs.Soundness.{in_contains}
-use Rattle.qq_setup.specs.declared.setup.Setup.{Setup}
+use Rattle.qq_route.specs.declared.setup.Setup.{Setup}
 use Rattle.qq_session.specs.ExactlyOne.{ExactlyOne}
 use Rattle.qq_session.specs.Printed.{IsConfirmedPublish}
 use Rattle.qq_cluster.specs.Cluster.{Setup as ClusterSetup, ClusterEvent, Of}

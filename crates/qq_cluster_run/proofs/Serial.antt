@@ -8,7 +8,7 @@ use Rattle.qq_model.specs.Audit.{audit_of}
 use Rattle.qq_model.specs.State.{empty_queue}
 use Rattle.qq_raft_model.specs.Group.{Group}
 use Rattle.qq_session.specs.Answered.{IsAnswered}
-use Rattle.qq_setup.specs.declared.setup.Setup.{Setup}
+use Rattle.qq_route.specs.declared.setup.Setup.{Setup}
 use Rattle.qq_cluster.specs.Cluster.{Setup as ClusterSetup, ClusterEvent, part_of, parts_of}
 use Rattle.qq_cluster.specs.ClusterLaws.{HasItsQueues}
 use Rattle.qq_cluster.specs.Laws.{CountsRise, IsBegun, KeepsAudit, queue_after}

@@ -14,9 +14,9 @@ use Rattle.qq_raft_model.specs.Leading.{send, add_entry, stand, lead, lead_if_el
 use Rattle.qq_raft_model.specs.Server.{refuse, give_vote, receive_vote, receive_voted, take_entries, refuse_entries, receive_append, take_ack, step_back, receive_appended, accept, receive, tick, submit, notice}
 use Rattle.qq_raft_model.specs.State.{change, enter, say_all}
 use Rattle.qq_ports.specs.Lines.{HasNoFeed, lines_of, onto_first}
-use Rattle.qq_setup.specs.declared.queue_row.QueueRow.{QueueRow}
-use Rattle.qq_setup.specs.declared.setup.Setup.{Setup}
-use Rattle.qq_setup.specs.Setup.{SetupState, plain_rows, plain_setup, state_of}
+use Rattle.qq_route.specs.declared.queue_row.QueueRow.{QueueRow}
+use Rattle.qq_route.specs.declared.setup.Setup.{Setup}
+use Rattle.qq_route.specs.Setup.{SetupState, plain_rows, plain_setup, state_of}
 use Rattle.qq_defs.specs.Runnable.{IsRunnable}
 use Rattle.qq_words.specs.declared.options.Options.{Options}
 use Rattle.qq_script_lines.specs.declared.fault.ScriptFault.{ScriptFault}

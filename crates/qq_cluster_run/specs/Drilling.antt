@@ -8,8 +8,8 @@ use Rattle.qq_base.specs.declared.ids.QueueId.{QueueId}
 use Rattle.qq_entry.specs.declared.audit.AuditRow.{AuditRow}
 use Rattle.qq_script_lines.specs.declared.line.ScriptLine.{ScriptLine}
 use Rattle.qq_script_lines.specs.declared.line.ScriptLine.TheVariants.{Pump, Tick}
-use Rattle.qq_setup.specs.Members.{members}
-use Rattle.qq_setup.specs.Setup.{SetupState, plain_setup}
+use Rattle.qq_route.specs.Members.{members}
+use Rattle.qq_route.specs.Setup.{SetupState, plain_setup}
 use Rattle.qq_taker.specs.declared.handed.Handed.{Handed}
 use Rattle.qq_words.specs.declared.options.TheConstants.{LOG_BYTES}
 use Rattle.qq_drill.specs.Drill.{Drill, after_step, hear, is_sixteenth, last_restart, new_drill, resends, step_lines}

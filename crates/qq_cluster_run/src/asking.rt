@@ -1,13 +1,13 @@
 ghost use Rattle.std.specs.Prelude.{◌≡◌, ◌<◌, Ok, Some, None, IfOk, IfErr};
-ghost use Rattle.qq_setup.specs.declared.setup.Setup.{Setup};
+ghost use Rattle.qq_route.specs.declared.setup.Setup.{Setup};
 ghost use Rattle.qq_script_lines.specs.Lines.{HasScriptCause};
 ghost use Rattle.qq_cluster_run.specs.Reading.{Asks, Ends, at_line, read_line, says};
 ghost use Rattle.qq_cluster_run.specs.Asking.{stop_by, HasAskCause};
 
 use crate::ending::{Ending, LINES_LIMIT};
 use crate::stop::AskStop;
+use qq_route::Setup;
 use qq_script_lines::{Place, ScriptFault, ScriptLine, parse_line};
-use qq_setup::Setup;
 use std::alloc::Global;
 
 // Why the line of a number isn't served.

@@ -1,7 +1,7 @@
 //! Worked scripts: what they print, letter by letter.
 ghost use Rattle.std.specs.Prelude.{◌≡◌, ◌++◌, [], ℕ, List, None, codes};
 ghost use Rattle.qq_base.specs.Fronts.{IsFront};
-ghost use Rattle.qq_setup.specs.declared.setup.Setup.{Setup};
+ghost use Rattle.qq_route.specs.declared.setup.Setup.{Setup};
 ghost use Rattle.qq_words.specs.declared.options.Options.{Options};
 ghost use Rattle.qq_cluster_run.specs.Printing.{IsQuiet};
 ghost use Rattle.qq_cluster_run.specs.Runs.{BreaksOff, IsSetup};

@@ -8,7 +8,7 @@ ghost use Rattle.qq_base.specs.declared.ids.QueueId.{QueueId};
 ghost use Rattle.qq_base.specs.declared.ids.SessionId.{SessionId};
 ghost use Rattle.qq_log.specs.declared.op.Op.{Op};
 ghost use Rattle.qq_log.specs.Stable.{Stable, stable};
-ghost use Rattle.qq_setup.specs.declared.setup.Setup.{Setup};
+ghost use Rattle.qq_route.specs.declared.setup.Setup.{Setup};
 ghost use Rattle.qq_script_lines.specs.declared.fault.ScriptFault.{ScriptFault};
 ghost use Rattle.qq_script_lines.specs.declared.fault.ScriptFault.TheVariants.{NoSuch};
 ghost use Rattle.qq_script_lines.specs.declared.line.ScriptLine.TheVariants.{Attach};

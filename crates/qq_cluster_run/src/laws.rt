@@ -2,7 +2,7 @@
 ghost use Rattle.std.specs.Prelude.{◌≡◌, ◌⊎◌, ◌≤◌, ◌<◌, ◌+◌, ◌++◌, [], ℕ, List, false, codes, Contains};
 ghost use Rattle.std.specs.Fmt.{decimal};
 ghost use Rattle.qq_ports.specs.Streams.{ShelfState};
-ghost use Rattle.qq_setup.specs.declared.setup.Setup.{Setup};
+ghost use Rattle.qq_route.specs.declared.setup.Setup.{Setup};
 ghost use Rattle.qq_words.specs.declared.options.Options.{Options};
 ghost use Rattle.qq_cluster.specs.Cluster.{ClusterEvent, Setup as ClusterSetup};
 ghost use Rattle.qq_cluster.specs.ClusterLaws.{PrintsWhatIsTrue, has_failure, findings, verdicts};

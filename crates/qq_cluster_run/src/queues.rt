@@ -4,7 +4,7 @@ ghost use Rattle.std.specs.Prelude.{◌≡◌, ◌⊎◌, ◌≤◌, ◌++◌, �
 ghost use Rattle.qq_base.specs.Fronts.{IsFront};
 ghost use Rattle.qq_base.specs.Ids.{client};
 ghost use Rattle.qq_base.specs.declared.ids.ConsumerId.{ConsumerId};
-ghost use Rattle.qq_setup.specs.declared.setup.Setup.{Setup};
+ghost use Rattle.qq_route.specs.declared.setup.Setup.{Setup};
 ghost use Rattle.qq_entry.specs.Command.{stamp};
 ghost use Rattle.qq_entry.specs.declared.answer.Answer.TheVariants.{Confirmed};
 ghost use Rattle.qq_entry.specs.declared.answer.Delivery.{Delivery};

@@ -3,7 +3,7 @@ use Rattle.std.proofs.Common.{◌≡◌, ℕ, ◌+◌, true, List, [], ◌∷◌
 use Rattle.std.specs.Prelude.{is_some}
 use Rattle.std.specs.List.{AllByRecursion}
 use Rattle.std.proofs.lemmas.Bool.{cond-true, cond_both}
-use Rattle.qq_entry_checks.specs.Answers.{answer_after, is_answer}
+use Rattle.qq_entry.specs.Answers.{answer_after, is_answer}
 use Rattle.qq_base.proofs.Lists.{AllByRecursion-weaker}
 use Rattle.qq_entry.specs.declared.audit.AuditRow.{AuditRow}
 use Rattle.qq_entry.specs.declared.command.Command.{Command}

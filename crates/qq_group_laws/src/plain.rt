@@ -1,7 +1,7 @@
 //! A group whose members have the plain queue machine.
 ghost use Rattle.std.specs.Prelude.{◌≡◌, ℕ, List, true, is_some};
 ghost use Rattle.std.specs.List.{AllByRecursion};
-ghost use Rattle.qq_entry_checks.specs.Answers.{answer_after, is_answer};
+ghost use Rattle.qq_entry.specs.Answers.{answer_after, is_answer};
 ghost use Rattle.qq_entry.specs.declared.audit.AuditRow.{AuditRow};
 ghost use Rattle.qq_entry.specs.declared.command.Command.{Command};
 ghost use Rattle.qq_entry.specs.declared.queue.QueueArgs.{QueueArgs};

@@ -14,7 +14,7 @@ use Rattle.qq_lots.specs.Lots.{ids_of}
 use Rattle.qq_raft_model.specs.Group.{has_node}
 use Rattle.qq_raft_model.specs.State.{Server}
 use Rattle.qq_raft_protocol.specs.Facts.{In}
-use Rattle.qq_setup.specs.declared.queue_row.QueueRow.{QueueRow}
+use Rattle.qq_route.specs.declared.queue_row.QueueRow.{QueueRow}
 use Rattle.qq_cluster.specs.Cluster.{Setup, members, new_cluster}
 use Rattle.qq_cluster.specs.Queue.{begin}
 use Rattle.qq_cluster.specs.Rules.{is_quiet, is_quiet_at}

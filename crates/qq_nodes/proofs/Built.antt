@@ -8,7 +8,7 @@ use Rattle.qq_entry.specs.declared.queue.QueueArgs.{QueueArgs}
 use Rattle.qq_group.specs.Group.{IsReached, server_at}
 use Rattle.qq_log.specs.declared.op.Op.{Op}
 use Rattle.qq_raft_model.specs.Group.{new_group}
-use Rattle.qq_setup.specs.declared.queue_row.QueueRow.{QueueRow}
+use Rattle.qq_route.specs.declared.queue_row.QueueRow.{QueueRow}
 use Rattle.qq_cluster_queue.specs.Agreeing.{BeginsWith}
 use Rattle.qq_cluster_queue.specs.ClusterQueue.{Opens}
 use Rattle.qq_cluster_queue.specs.Members.{AreSound}

@@ -9,7 +9,7 @@ use Rattle.qq_group.specs.Opening.{IsAllDown}
 use Rattle.qq_log.specs.declared.limits.TheConstants.{NODE_LIMIT}
 use Rattle.qq_log.specs.declared.op.Op.{Op}
 use Rattle.qq_raft_msg.specs.Rpc.{IsNode}
-use Rattle.qq_setup.specs.declared.queue_row.QueueRow.{QueueRow}
+use Rattle.qq_route.specs.declared.queue_row.QueueRow.{QueueRow}
 use Rattle.qq_cluster.specs.Cluster.{Setup}
 use Rattle.qq_cluster_laws.specs.Serves.{seen_of}
 use Rattle.qq_cluster_queue.specs.Agreeing.{BeginsWith}

@@ -3,7 +3,7 @@ ghost use Rattle.std.specs.Prelude.{◌≡◌, ◌≤◌, [], All, length, vec_c
 ghost use Rattle.qq_cluster.specs.Cluster.{Setup, new_cluster};
 ghost use Rattle.qq_log.specs.declared.limits.TheConstants.{NODE_LIMIT};
 ghost use Rattle.qq_raft_model.specs.Promises.{AreDistinct};
-ghost use Rattle.qq_setup.specs.declared.queue_row.QueueRow.{QueueRow as Row};
+ghost use Rattle.qq_route.specs.declared.queue_row.QueueRow.{QueueRow as Row};
 ghost use Rattle.qq_nodes.specs.Disks.{AreBareNodes, IsBareNode};
 ghost use Rattle.qq_nodes.specs.Nodes.{Stands};
 ghost use Rattle.qq_nodes.specs.Setting.{AreNew, AreQueuesFor, HaveDisks, IsQueueFor, IsRow, IsSetupOver, IsWhole, ids_on, is_among};
@@ -15,7 +15,7 @@ use qq_base::{Duplicate, Memory, NodeId, QueueId, both};
 use qq_cluster_queue::{ClusterQueue, Sessions};
 use qq_disk::NodeDisk;
 use qq_group::events_reach_groups;
-use qq_setup::QueueRow;
+use qq_route::QueueRow;
 use std::alloc::Global;
 
 // A queue whose members are down.

@@ -15,7 +15,7 @@ use Rattle.qq_raft_model.specs.Group.{Group, Seat}
 use Rattle.qq_raft_model.specs.Promises.{AreDistinct, members_of}
 use Rattle.qq_raft_protocol.specs.Facts.{In}
 use Rattle.qq_raft_protocol.proofs.Lists.{In-cases}
-use Rattle.qq_setup.specs.declared.queue_row.QueueRow.{QueueRow}
+use Rattle.qq_route.specs.declared.queue_row.QueueRow.{QueueRow}
 use Rattle.qq_wal_chain.specs.Lanes.{Lanes}
 use Rattle.qq_cluster.specs.Cluster.{Setup}
 use Rattle.qq_cluster.specs.ClusterLaws.{HasGroups}

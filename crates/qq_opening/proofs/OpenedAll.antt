@@ -14,7 +14,7 @@ use Rattle.qq_disk.specs.Facts.{DiskFacts}
 use Rattle.qq_raft_model.specs.Group.{new_group}
 use Rattle.qq_raft_model.specs.Promises.{AreDistinct}
 use Rattle.qq_raft_protocol.specs.Facts.{In}
-use Rattle.qq_setup.specs.declared.queue_row.QueueRow.{QueueRow}
+use Rattle.qq_route.specs.declared.queue_row.QueueRow.{QueueRow}
 use Rattle.qq_wal_chain.specs.Lanes.{Lanes}
 use Rattle.qq_cluster.specs.Cluster.{Cluster, ClusterEvent, Setup, cluster_after, new_cluster}
 use Rattle.qq_cluster.specs.ClusterLaws.{HasGroups}

@@ -21,7 +21,7 @@ use Rattle.qq_raft_model.specs.Group.{Group, Seat, has_node}
 use Rattle.qq_raft_model.specs.Promises.{IsPlain}
 use Rattle.qq_raft_protocol.specs.Facts.{In}
 use Rattle.qq_recover.specs.Reading.{lanes_read, shown}
-use Rattle.qq_setup.specs.declared.queue_row.QueueRow.{QueueRow}
+use Rattle.qq_route.specs.declared.queue_row.QueueRow.{QueueRow}
 use Rattle.qq_wal_chain.specs.Lanes.{Lanes}
 use Rattle.qq_cluster.specs.Cluster.{Setup, members, new_cluster}
 use Rattle.qq_cluster.specs.ClusterLaws.{HasGroups}

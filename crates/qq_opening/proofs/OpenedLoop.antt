@@ -9,7 +9,7 @@ use Rattle.qq_base.specs.Fronts.{put}
 use Rattle.qq_base.specs.declared.ids.NodeId.{NodeId}
 use Rattle.qq_disk.specs.Facts.{DiskFacts}
 use Rattle.qq_recover.specs.declared.fault.RecoverFault.TheVariants as recover_faults
-use Rattle.qq_setup.specs.declared.queue_row.QueueRow.{QueueRow}
+use Rattle.qq_route.specs.declared.queue_row.QueueRow.{QueueRow}
 use Rattle.qq_wal_chain.specs.Lanes.{Lanes}
 use Rattle.qq_cluster.specs.Cluster.{Setup, new_cluster}
 use Rattle.qq_cluster.specs.ClusterLaws.{HasGroups}

@@ -20,7 +20,7 @@ use Rattle.qq_node_log.specs.declared.node_log.NodeLog.TheVariants.{Open, Closed
 use Rattle.qq_raft_protocol.specs.Facts.{In}
 use Rattle.qq_recover.specs.Reading.{lanes_read, shown}
 use Rattle.qq_recover.specs.declared.fault.RecoverFault.TheVariants as recover_faults
-use Rattle.qq_setup.specs.declared.queue_row.QueueRow.{QueueRow}
+use Rattle.qq_route.specs.declared.queue_row.QueueRow.{QueueRow}
 use Rattle.qq_wal_chain.specs.Lanes.{Lanes}
 use Rattle.qq_cluster_laws.specs.Serves.{Seen, seen_of}
 use Rattle.qq_cluster_queue.specs.declared.cluster_queue.ClusterQueue.{ClusterQueue}

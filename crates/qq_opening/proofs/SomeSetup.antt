@@ -9,7 +9,7 @@ use Rattle.qq_raft_model.specs.Group.{Group, new_group}
 use Rattle.qq_raft_model.specs.Promises.{AreDistinct}
 use Rattle.qq_raft_protocol.specs.Facts.{In}
 use Rattle.qq_raft_protocol.proofs.Lists.{In-cases}
-use Rattle.qq_setup.specs.declared.queue_row.QueueRow.{QueueRow}
+use Rattle.qq_route.specs.declared.queue_row.QueueRow.{QueueRow}
 use Rattle.qq_cluster.specs.Cluster.{Setup, members}
 use Rattle.qq_cluster.specs.Laws.{IsBegun}
 use Rattle.qq_cluster_laws.specs.Waiting.{HasOwnGroups, IsChangeOf}

@@ -21,7 +21,7 @@ use Rattle.qq_raft_model.specs.Group.{Group as GroupState}
 use Rattle.qq_raft_model.specs.Promises.{IsOpened}
 use Rattle.qq_raft_protocol.specs.Facts.{In}
 use Rattle.qq_recover.specs.Reading.{lanes_read, shown}
-use Rattle.qq_setup.specs.declared.queue_row.QueueRow.{QueueRow}
+use Rattle.qq_route.specs.declared.queue_row.QueueRow.{QueueRow}
 use Rattle.qq_wal_chain.specs.Lanes.{Lanes}
 use Rattle.qq_cluster.specs.Cluster.{Cluster, ClusterEvent, Setup, new_cluster}
 use Rattle.qq_cluster.specs.ClusterLaws.{HasGroups, findings}

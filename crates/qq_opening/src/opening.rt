@@ -3,7 +3,7 @@ ghost use Rattle.std.specs.Prelude.{◌≡◌, ◌<◌, ◌||◌, List, IfErr, I
 ghost use Rattle.qq_nodes.specs.Setting.{AreNew};
 ghost use Rattle.qq_opening.specs.Opened.{IsMarked, OpenedTo};
 ghost use Rattle.qq_opening.specs.Opening.{MayNotOpen, OpensOver};
-ghost use Rattle.qq_setup.specs.declared.queue_row.QueueRow.{QueueRow as Row};
+ghost use Rattle.qq_route.specs.declared.queue_row.QueueRow.{QueueRow as Row};
 
 use crate::agreeing::{first_lost, lost};
 use crate::marking::mark_in;

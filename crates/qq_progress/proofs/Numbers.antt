@@ -8,7 +8,7 @@ use Rattle.qq_base.proofs.Lists.{AllByRecursion-append, AllByRecursion-filter, A
 use Rattle.qq_base.proofs.Puts.{put-each, put-same}
 use Rattle.qq_base.specs.Fronts.{put}
 use Rattle.qq_base.specs.Ids.{client}
-use Rattle.qq_entry.specs.Command.{stamp}
+use Rattle.qq_entry.specs.Command.{seq_of, stamp}
 use Rattle.qq_entry.specs.declared.answer.Answer.{Answer}
 use Rattle.qq_entry.specs.declared.audit.AuditRow.{AuditRow}
 use Rattle.qq_entry.specs.declared.command.Command.{Command}
@@ -18,7 +18,6 @@ use Rattle.qq_entry.specs.declared.command.Unstamped.{Unstamped}
 use Rattle.qq_entry.specs.declared.queue.QueueArgs.{QueueArgs}
 use Rattle.qq_raft_model.specs.Group.{Event as Move, Group}
 use Rattle.qq_raft_model.specs.Group.Event.{Tick, Submit, Add, Flush, Deliver, Lose, Copy, Take, Notice, Crash, Restart}
-use Rattle.qq_script.specs.Text.{seq_of}
 use Rattle.qq_session.proofs.NumberingLemmas.{stamped-stamp}
 use Rattle.qq_session.specs.Publishing.{Numbers, OpenCommand, answer, closes, hand, next_command, next_stamp, without}
 use Rattle.qq_session.specs.Deeds.{is_sent_by}

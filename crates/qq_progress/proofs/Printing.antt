@@ -10,7 +10,7 @@ use Rattle.std.proofs.lemmas.Map.Views.{any-filter_same}
 use Rattle.qq_base.proofs.Lists.{AllByRecursion-filter}
 use Rattle.qq_base.specs.Ids.{client, same_session}
 use Rattle.qq_base.specs.declared.ids.SessionId.{SessionId}
-use Rattle.qq_entry.specs.Command.{stamp}
+use Rattle.qq_entry.specs.Command.{seq_of, stamp}
 use Rattle.qq_entry.specs.declared.answer.Answer.{Answer}
 use Rattle.qq_entry.specs.declared.audit.AuditRow.{AuditRow}
 use Rattle.qq_entry.specs.declared.command.Entry.{Entry}
@@ -20,7 +20,6 @@ use Rattle.qq_model.specs.Audit.{audit_of, next_index, next_step, row_of, state_
 use Rattle.qq_model.specs.State.{State, empty_queue}
 use Rattle.qq_raft_model.specs.Server.{is_ready}
 use Rattle.qq_raft_model.specs.State.{Server}
-use Rattle.qq_script.specs.Text.{seq_of}
 use Rattle.qq_session.specs.Publishing.{Numbers, OpenCommand, answer, closes, is_open, without}
 use Rattle.qq_session.specs.Deeds.{is_sent_by}
 use Rattle.qq_session.specs.Clients.{Clients, hear, hear_all, is_printed, is_printed_by, printed, sender, sender_by, tells_end, ended_by}

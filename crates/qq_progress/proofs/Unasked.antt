@@ -10,7 +10,6 @@ use Rattle.qq_base.specs.declared.ids.NodeId.{NodeId}
 use Rattle.qq_base.specs.declared.ids.QueueId.{QueueId}
 use Rattle.qq_base.specs.declared.ids.SessionId.{SessionId}
 use Rattle.qq_entry.specs.declared.audit.AuditRow.{AuditRow}
-use Rattle.qq_script.specs.Text.{seq_of}
 use Rattle.qq_session.specs.Publishing.{Numbers, closes, new_numbers, without}
 use Rattle.qq_session.specs.Clients.{Client, Clients, hear, hear_all, hear_by, new_client, sender, take_answer}
 use Rattle.qq_cluster.specs.Cluster.{Cluster, ClusterEvent, Sets, Alike, At, NodeWrites, NodeSyncs, Fails, Crashes, FindsEach, Shows, SaysDown, SaysNoSuch, SaysUnroutable, SaysBusy, SaysEnded, Setup, cluster_after, cluster_happens, members, new_cluster, part_of, parts_of}
@@ -20,6 +19,7 @@ use Rattle.qq_cluster.specs.Queue.{Queue, Event, Mutes, Ends, Submits, TellsEnde
 use Rattle.qq_cluster.specs.Rules.{ForEach, Is, IsEmptied, IsFirstTick, IsFound, IsNodeRound, IsNothing, IsNotice, IsOpening, IsPump, IsRestart, IsRound, IsSync, IsSynced, IsWrite, IsWritten, MayRoll, Pumps, Rule, Tells, Then, if_so, is_idle, most_rounds, some_queue, tick_at, waits_noticed, waits_synced, waits_written}
 use Rattle.qq_cluster.proofs.Takerless.{GivesNone, IsTakerless, emptied-is, takerless-all, takerless-begin, tells-one}
 use Rattle.qq_progress.proofs.Playing.{queue-is}
+use Rattle.qq_entry.specs.Command.{seq_of}
 
 -- ---- sessions
 

@@ -7,7 +7,7 @@ mod delivery;
 mod piece;
 mod words;
 
-pub use answer::{answer_text, seq_of, session_line};
+pub use answer::{answer_text, session_line};
 pub use audit::{audit_head_text, row_text};
 pub use delivery::delivery_text;
 pub use words::{push_number, push_text};

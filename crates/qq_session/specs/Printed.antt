@@ -4,9 +4,8 @@ use Rattle.qq_base.specs.Ids.{client}
 use Rattle.qq_base.specs.declared.ids.SessionId.{SessionId}
 use Rattle.qq_entry.specs.declared.command.Stamp.{Stamp}
 use Rattle.qq_entry.specs.declared.audit.AuditRow.{AuditRow}
-use Rattle.qq_entry.specs.Command.{stamp}
+use Rattle.qq_entry.specs.Command.{seq_of, stamp}
 use Rattle.qq_session.specs.Publishing.{closes}
-use Rattle.qq_script.specs.Text.{seq_of}
 use Rattle.qq_entry.specs.declared.answer.Answer.TheVariants.{Confirmed}
 use Rattle.qq_entry.specs.declared.command.Command.TheVariants.{Enqueue, Down}
 use Rattle.qq_entry.specs.declared.message.Message.{Message}

@@ -1,12 +1,12 @@
 use Rattle.std.proofs.Common.{ℕ, Option, sym, ap, ◌∙◌}
 use Rattle.qq_base.specs.Ids.{client}
-use Rattle.qq_script.specs.Text.{seq_of}
 use Rattle.qq_session.specs.Publishing.{answer, new_numbers}
 use Rattle.qq_session.specs.Clients.{hear_by}
 use Rattle.qq_cluster_queue.specs.Sessions.{clients_of, numbers_of, standings}
 use Rattle.qq_cluster_queue.proofs.Hearing.{absent-hears, heard-by, muted-deaf}
 use Rattle.qq_cluster_queue.proofs.Known.{written-known}
 use Rattle.qq_cluster_queue.proofs.publishers.Publishers.hear.Goals as goal
+use Rattle.qq_entry.specs.Command.{seq_of}
 
 pub returns-then-muted : goal.returns-then-muted
 returns-then-muted c =
