@@ -1,0 +1,27 @@
+//! AMQP 0-9-1 as bytes: a reader of the frames that come in pieces, and a writer.
+#![tactic(auto)]
+
+mod basic;
+mod channel;
+mod connection;
+mod fault;
+mod fields;
+mod frame;
+mod head;
+mod kinds;
+mod method;
+mod put;
+mod put_basic;
+mod put_connection;
+mod put_method;
+mod put_queue;
+mod queue;
+mod reader;
+mod reading;
+mod writing;
+
+pub use fault::WireFault;
+pub use frame::Frame;
+pub use method::Method;
+pub use reader::Reader;
+pub use writing::write_frame;
