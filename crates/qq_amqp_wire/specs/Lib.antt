@@ -1,5 +1,6 @@
 pub mod Arguments
 pub mod Frames
+pub mod Grammar
 pub mod Input
 pub mod Rows
 pub mod Writing

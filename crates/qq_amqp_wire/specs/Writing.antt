@@ -24,7 +24,7 @@ channel_of (Heartbeat channel) = channel
 
 -- a frame of this type and channel with this payload
 unfoldable pub framed : ℕ → ℕ → List ℕ → List ℕ
-framed kind channel payload = u8 kind ++ u16 channel ++ u32 (length payload) ++ payload ++ kinds.END ∷ []
+framed kind channel payload = u8 kind ++ (u16 channel ++ (u32 (length payload) ++ (payload ++ kinds.END ∷ [])))
 
 -- ---- payloads
 

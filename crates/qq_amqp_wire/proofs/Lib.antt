@@ -1,0 +1,3 @@
+mod ArgumentLaws
+mod RowLaws
+mod PayloadLaws
