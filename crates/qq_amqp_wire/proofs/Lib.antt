@@ -1,3 +1,5 @@
 mod ArgumentLaws
 mod RowLaws
 mod PayloadLaws
+mod FrameLaws
+mod FaultLaws

@@ -141,7 +141,13 @@ abbrev pub HasFault : Bool → ℕ → List ℕ → WireFault → Type 0
 HasFault false max bytes fault = HasProtocolFault bytes fault
 HasFault true max bytes fault = HasFrameFault max bytes fault
 
+-- a frame stands at the front of the bytes, and the rest behind it
+pub record IsRead (begun : Bool) (max : ℕ) (bytes : List ℕ) (frame : Frame) (rest : List ℕ) : Type 0 where
+  pub text : List ℕ
+  pub spells : Spells begun max frame text
+  pub is : bytes ≡ text ++ rest
+
 -- no whole frame stands at the front of the bytes, and no fault shows yet
 pub record IsPartial (begun : Bool) (max : ℕ) (bytes : List ℕ) : Type 0 where
-  pub none : (frame : Frame) (text rest : List ℕ) → Spells begun max frame text → bytes ≡ text ++ rest → ⊥
+  pub none : (frame : Frame) (rest : List ℕ) → IsRead begun max bytes frame rest → ⊥
   pub sound : (fault : WireFault) → HasFault begun max bytes fault → ⊥
