@@ -3,3 +3,4 @@ mod RowLaws
 mod PayloadLaws
 mod FrameLaws
 mod FaultLaws
+mod ProtocolLaws
