@@ -191,8 +191,11 @@ too_long_again : (max : ℕ) (bytes : List ℕ) → IsTooLong max bytes → fram
 unfolding frame_at frame_of
 too_long_again max bytes f =
     let long : ltb (max - 8) f.size ≡ true = lt-ltb _ _ f.long in
-    rw (kind_good f.kind bytes _ f.range.0 f.is f.known,
-      head_again f.kind f.channel f.size bytes f.rest f.is f.range.0 f.range.1 f.range.2, long) refl
+    rw (
+      kind_good f.kind bytes _ f.range.0 f.is f.known,
+      head_again f.kind f.channel f.size bytes f.rest f.is f.range.0 f.range.1 f.range.2,
+      long,
+    ) refl
 
 no_end_again : (max : ℕ) (bytes : List ℕ) → HasNoEnd max bytes → frame_at max bytes ≡ Err BadEnd
 unfolding frame_at frame_of
@@ -203,9 +206,15 @@ no_end_again max bytes f =
     let last : get_or (f.payload ++ f.last ∷ f.rest) (length f.payload) 0 ≡ f.last =
     get_or-append_seam f.payload f.last f.rest 0 in
     let other : eqb f.last kinds.END ≡ false = ne_eqb f.last kinds.END f.other in
-    rw (kind_good f.kind bytes _ f.range.0 f.is f.known,
+    rw (
+      kind_good f.kind bytes _ f.range.0 f.is f.known,
       head_again f.kind f.channel (length f.payload) bytes (f.payload ++ f.last ∷ f.rest) f.is f.range.0 f.range.1
-      f.short.fits, within, there, last, other) refl
+          f.short.fits,
+      within,
+      there,
+      last,
+      other,
+    ) refl
 
 -- the bytes of a frame's payload
 payload_bytes : (kind channel : ℕ) (payload rest bytes : List ℕ) → AreBytes bytes

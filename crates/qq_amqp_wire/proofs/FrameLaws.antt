@@ -112,8 +112,10 @@ unfolding frame_at
 whole_again max kind channel payload rest bytes known k c short e =
     let split : bytes ≡ u8 kind ++ (u16 channel ++ (u32 (length payload) ++ (payload ++ kinds.END ∷ rest))) =
     e ∙ framed_then kind channel payload rest in
-    rw (kind_good kind bytes _ k split known,
-      head_again kind channel (length payload) bytes (payload ++ kinds.END ∷ rest) split k c short.fits)
+    rw (
+      kind_good kind bytes _ k split known,
+      head_again kind channel (length payload) bytes (payload ++ kinds.END ∷ rest) split k c short.fits,
+    )
     (frame_rest max kind channel payload rest short)
 
 kind_in_range : (f : Frame) (payload : List ℕ) → SpellsPayload f payload → (is_kind (kind_of f) ≡ true) × (kind_of f < 2 ^ 8)

@@ -4,3 +4,4 @@ mod PayloadLaws
 mod FrameLaws
 mod FaultLaws
 mod ProtocolLaws
+mod ReaderLaws

@@ -188,7 +188,7 @@ bad_fails {P = P} (Err e) may p = record { value = subst P (sym may.value) p }
 abbrev HasNumbers : List ℕ → Type 0
 HasNumbers payload =
     (class number : ℕ) (rest : List ℕ) → class < 2 ^ 16 → number < 2 ^ 16
-        → payload ≡ u16 class ++ (u16 number ++ rest) → IsSome (row_at class number)
+    → payload ≡ u16 class ++ (u16 number ++ rest) → IsSome (row_at class number)
 
 data MethodFault (payload : List ℕ) : WireFault → Type 0 where
   IsBadField : HasNumbers payload → MethodFault payload BadField

@@ -39,11 +39,11 @@ differ (x ∷ xs) (y ∷ ys) other =
             differs = later.differs;
           }
       | inr differs ↦ record {
-          place = 0;
-          first = omega arith;
-          second = omega arith;
-          differs = eqb-false x y differs;
-        }
+        place = 0;
+        first = omega arith;
+        second = omega arith;
+        differs = eqb-false x y differs;
+      }
     ]
 
 agree_true : (bytes : List ℕ) → agree bytes kinds.PROTOCOL ≡ true → take 8 bytes ≡ take (length bytes) kinds.PROTOCOL

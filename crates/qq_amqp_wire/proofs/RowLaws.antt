@@ -109,10 +109,31 @@ connection_close_ok_makes = record {
 }
 
 connection_make : AllByRecursion (Makes 10) connection_rows
-connection_make =
-    (connection_start_makes, (connection_start_ok_makes, (connection_tune_makes, (connection_tune_ok_makes,
-    (connection_open_makes, (connection_open_ok_makes, (connection_close_makes, (connection_close_ok_makes,
-    tt))))))))
+connection_make = (
+  connection_start_makes,
+  (
+    connection_start_ok_makes,
+    (
+      connection_tune_makes,
+      (
+        connection_tune_ok_makes,
+        (
+          connection_open_makes,
+          (
+            connection_open_ok_makes,
+            (
+              connection_close_makes,
+              (
+                connection_close_ok_makes,
+                tt,
+              ),
+            ),
+          ),
+        ),
+      ),
+    ),
+  ),
+)
 
 channel_open_makes : Makes 20 channel_open
 channel_open_makes = record {
@@ -255,10 +276,37 @@ basic_nack_makes = record {
 }
 
 basic_make : AllByRecursion (Makes 60) basic_rows
-basic_make =
-    (basic_qos_makes, (basic_qos_ok_makes, (basic_consume_makes, (basic_consume_ok_makes, (basic_cancel_makes,
-    (basic_cancel_ok_makes, (basic_publish_makes, (basic_deliver_makes, (basic_get_makes, (basic_get_ok_makes,
-    (basic_get_empty_makes, (basic_ack_makes, (basic_reject_makes, (basic_nack_makes, tt))))))))))))))
+basic_make = (
+  basic_qos_makes,
+  (
+    basic_qos_ok_makes,
+    (
+      basic_consume_makes,
+      (
+        basic_consume_ok_makes,
+        (
+          basic_cancel_makes,
+          (
+            basic_cancel_ok_makes,
+            (
+              basic_publish_makes,
+              (
+                basic_deliver_makes,
+                (
+                  basic_get_makes,
+                  (
+                    basic_get_ok_makes,
+                    (basic_get_empty_makes, (basic_ack_makes, (basic_reject_makes, (basic_nack_makes, tt)))),
+                  ),
+                ),
+              ),
+            ),
+          ),
+        ),
+      ),
+    ),
+  ),
+)
 
 confirm_select_makes : Makes 85 confirm_select
 confirm_select_makes = record {

@@ -1,6 +1,7 @@
 pub mod Arguments
 pub mod Frames
 pub mod Grammar
+pub mod Handing
 pub mod Input
 pub mod Rows
 pub mod Writing

@@ -1,8 +1,13 @@
 //! A reader of frames that come in pieces.
-ghost use Rattle.std.specs.Prelude.{◌≡◌, ◌≤◌, ◌++◌, List, Bool, Option, true, false, drop, vec_len, OnOk, OnErr, IsOkUnless};
+ghost use Rattle.std.specs.Prelude.{◌≡◌, ◌≤◌, ℕ, List, Ok, Err, Some, None, drop, length, vec_len, IfOk, IfErr, IfSome, IfNone, OnOk, OnErr, IsOkUnless};
+ghost use Rattle.qq_base.specs.Fields.{AreBytes};
 ghost use Rattle.qq_fields.specs.Reading.{Gives};
 ghost use Rattle.qq_amqp_wire.specs.Arguments.{memory_of};
+ghost use Rattle.qq_amqp_wire.specs.Grammar.{HasFault, IsRead};
+ghost use Rattle.qq_amqp_wire.specs.Handing.{HandsOut, Waits, StopsAt};
 ghost use Rattle.qq_amqp_wire.specs.Input.{Input, fresh, fed, next, left_by};
+ghost use Rattle.qq_amqp_wire.specs.declared.fault.WireFault.{WireFault};
+ghost use Rattle.qq_amqp_wire.specs.declared.frame.Frame.{Frame};
 
 use crate::fault::WireFault;
 use crate::frame::Frame;
@@ -27,7 +32,11 @@ impl Model for Reader {
     ghost Value = { Input };
 
     ghost view = { λ r. record {
-        begun = r.begun; max = r.frame_max; unread = drop r.start r.bytes.items; fault = r.fault } };
+      begun = r.begun;
+      max = r.frame_max;
+      unread = drop r.start r.bytes.items;
+      fault = r.fault;
+    } };
 
     ghost invariant = { λ r. r.start ≤ vec_len r.bytes };
 }
@@ -40,6 +49,15 @@ fn remove_front(bytes: &mut Vec<u8>, count: usize)
     let len = bytes.len();
     bytes.copy_within(count..len, 0);
     bytes.truncate(len - count);
+}
+
+/// The bytes from a place on.
+fn bytes_from(bytes: &[u8], start: usize) -> &[u8]
+    requires { start ≤ length bytes.now }
+    ensures value { result.now ≡ drop start bytes.now }
+    ensures bytes { AreBytes result.now }
+{
+    bytes.split_at(start).1
 }
 
 impl Reader {
@@ -81,17 +99,24 @@ impl Reader {
         self.frame_max = frame_max;
     }
 
-    /// The next frame, or None where no whole one has come. After a fault other than `Memory` the reader answers it from
-    /// then on; after `Memory` it is as before.
+    fn unread(&self) -> &[u8]
+        ensures value { result.now ≡ self.now.unread }
+        ensures bytes { AreBytes self.now.unread }
+    {
+        bytes_from(self.bytes.as_slice(), self.start)
+    }
+
     #[tactic(auto, unfolding(crate::specs::Input::next))]
-    pub fn next_frame(&mut self) -> Result<Option<Frame>, WireFault>
+    fn step(&mut self) -> Result<Option<Frame>, WireFault>
         ensures exact { Gives memory_of (λ x. x) result (next self.old).0 }
         ensures left { self.new ≡ left_by result self.old }
+        ensures bytes { AreBytes self.old.unread }
     {
-        if let Some(fault) = self.fault {
+        let stopped = self.fault;
+        let unread = self.unread();
+        if let Some(fault) = stopped {
             return Err(fault);
         }
-        let unread = self.bytes.as_slice().split_at(self.start).1;
         match found_at(self.alloc, self.begun, self.frame_max, unread) {
             Ok(None) => Ok(None),
             Ok(Some((frame, taken))) => {
@@ -107,5 +132,29 @@ impl Reader {
                 Err(fault)
             }
         }
+    }
+
+    /// The next frame, or None where no whole one has come and no fault shows yet. After a fault other than
+    /// `Memory` the reader answers it from then on; after `Memory` it is as before.
+    pub fn next_frame(&mut self) -> Result<Option<Frame>, WireFault>
+        ensures frame { IfOk result (λ o. IfSome o (HandsOut self.old self.new)) }
+        ensures none { IfOk result (λ o. IfNone o (Waits self.old self.new)) }
+        ensures err { IfErr result (StopsAt self.old self.new) }
+
+        // A frame and a fault that stand at the front are answered, unless memory ran out.
+        ensures whole { (f : Frame) (rest : List ℕ) → self.old.fault ≡ None
+            → IsRead self.old.begun self.old.max self.old.unread f rest
+            → Gives memory_of (λ x. x) result (Ok (Some f)) }
+        ensures fault { (e : WireFault) → self.old.fault ≡ None
+            → HasFault self.old.begun self.old.max self.old.unread e
+            → Gives memory_of (λ x. x) result (Err e) }
+        ensures stopped { (e : WireFault) → self.old.fault ≡ Some e
+            → Gives memory_of (λ x. x) result (Err e) }
+
+        // Which answer it is, and what is left.
+        ensures exact { Gives memory_of (λ x. x) result (next self.old).0 }
+        ensures left { self.new ≡ left_by result self.old }
+    {
+        self.step()
     }
 }
