@@ -5,3 +5,5 @@ mod FrameLaws
 mod FaultLaws
 mod ProtocolLaws
 mod ReaderLaws
+mod MoreLaws
+mod CallLaws

@@ -1,4 +1,5 @@
 pub mod Arguments
+pub mod Calls
 pub mod Frames
 pub mod Grammar
 pub mod Handing
