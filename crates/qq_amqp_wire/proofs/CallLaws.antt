@@ -1,7 +1,7 @@
 -- However the bytes come, the frames that are handed out are those of the grammar.
 use Rattle.std.proofs.Common.{◌≡◌, ◌⊎◌, ℕ, ◌+◌, ◌≤◌, Bool, true, false, List, [], ◌∷◌, ◌++◌, length, take, drop, Option, Some, None, Result, Ok, Err, refl, sym, ap, subst, ◌∙◌, append_assoc, append-nil, arith}
 use Rattle.std.proofs.lemmas.List.{take_at, drop_at, length-append}
-use Rattle.qq_base.proofs.Fronts.{front-nil, longer_front, front-same}
+use Rattle.qq_base.proofs.Fronts.{front-refl, front-nil, longer_front, front-same}
 use Rattle.qq_base.proofs.Numbers.{AreBytes-take}
 use Rattle.qq_base.specs.Fields.{AreBytes}
 use Rattle.qq_base.specs.Fronts.{IsFront}
@@ -228,3 +228,71 @@ come_in_order early late input fits sound front drained =
     only_these late input fits sound drained (frames_of early input) (s.rest ++ front.rest)
     (subst (λ (t : List ℕ). Splits input.begun input.max t (frames_of early input) (s.rest ++ front.rest)) (sym bytes)
     (splits_more input.begun input.max (input.unread ++ bytes_of early) front.rest (frames_of early input) s.rest s.split))
+
+-- ---- however the bytes are cut
+
+-- what a reader answers, by what stands at the front
+abbrev answer : Found → Result (Option Frame) WireFault
+answer (Ok None) = Ok None
+answer (Ok (Some x)) = Ok (Some x.0)
+answer (Err e) = Err e
+
+step_answer : (r : Found) (input : Input) → (step_by r input).0 ≡ answer r
+step_answer (Ok None) input = refl
+step_answer (Ok (Some x)) input = refl
+step_answer (Err e) input = refl
+
+answer_is : (last : Input) (rest : List ℕ) → AreBytes rest → IsLeftBy last.fault last rest
+    → (next last).0 ≡ answer (found_at last.begun last.max rest)
+unfolding next
+answer_is last rest fits left = by last.fault refl left
+  where
+    by : (o : Option WireFault) → last.fault ≡ o → IsLeftBy o last rest
+        → (next_by last.fault last).0 ≡ answer (found_at last.begun last.max rest)
+    by None sound is =
+        ap (λ (o : Option WireFault). (next_by o last).0) sound
+        ∙ step_answer (found_at last.begun last.max last.unread) last
+        ∙ ap (λ (t : List ℕ). answer (found_at last.begun last.max t)) (sym is)
+    by (Some e) stopped is =
+        ap (λ (o : Option WireFault). (next_by o last).0) stopped
+        ∙ ap answer (sym (fault_again last.begun last.max rest e fits is))
+
+same_rest : (begun : Bool) (max : ℕ) (bytes : List ℕ) (frames : List Frame) (rest more : List ℕ)
+    → Splits begun max bytes frames rest → Splits begun max bytes frames more → rest ≡ more
+same_rest begun max bytes [] rest more p q = sym p ∙ q
+same_rest begun max bytes (f ∷ frames) rest more p q =
+    let same = same_read begun max bytes f f p.0 q.0 p.1.0 q.1.0 in
+    same_rest true max p.0 frames rest more p.1.1
+    (subst (λ (t : List ℕ). Splits true max t frames more) (sym same.1) q.1.1)
+
+pub cut_alike : (a b : List Call) (input : Input) → AreBytes (input.unread ++ bytes_of a) → input.fault ≡ None
+    → bytes_of a ≡ bytes_of b → IsDrained a input → IsDrained b input
+    → (frames_of a input ≡ frames_of b input) × ((next (left_of a input)).0 ≡ (next (left_of b input)).0)
+cut_alike a b input fits sound bytes first second =
+    let all : input.unread ++ bytes_of a ≡ input.unread ++ bytes_of b = ap (λ (t : List ℕ). input.unread ++ t) bytes in
+    let fits' = subst AreBytes all fits in
+    let there : IsFront (bytes_of a) (bytes_of b) = subst (IsFront (bytes_of a)) bytes (front-refl (bytes_of a)) in
+    let back : IsFront (bytes_of b) (bytes_of a) = subst (IsFront (bytes_of b)) (sym bytes) (front-refl (bytes_of b)) in
+    let frames : frames_of a input ≡ frames_of b input = sym
+    (front-same (come_in_order a b input fits' sound there second) (come_in_order b a input fits sound back first)) in
+    let s = are_split a input fits sound in
+    let t = are_split b input fits' sound in
+    let t_split : Splits input.begun input.max (input.unread ++ bytes_of a) (frames_of a input) t.rest =
+    subst (λ (fs : List Frame). Splits input.begun input.max (input.unread ++ bytes_of a) fs t.rest) (sym frames)
+    (subst (λ (l : List ℕ). Splits input.begun input.max l (frames_of b input) t.rest) (sym all) t.split) in
+    let rest : s.rest ≡ t.rest = same_rest input.begun input.max (input.unread ++ bytes_of a) (frames_of a input) s.rest
+    t.rest s.split t_split in
+    let begun : (left_of a input).begun ≡ (left_of b input).begun =
+    s.begun ∙ ap (begun_by input.begun) frames ∙ sym t.begun in
+    let max : (left_of a input).max ≡ (left_of b input).max = s.max ∙ sym t.max in (
+      frames,
+      answer_is (left_of a input) s.rest
+          (splits_bytes input.begun input.max (input.unread ++ bytes_of a) (frames_of a input) s.rest fits s.split)
+          s.left
+          ∙ ap (λ (l : List ℕ). answer (found_at (left_of a input).begun (left_of a input).max l)) rest
+          ∙ ap (λ (c : Bool). answer (found_at c (left_of a input).max t.rest)) begun
+          ∙ ap (λ (m : ℕ). answer (found_at (left_of b input).begun m t.rest)) max
+          ∙ sym (answer_is (left_of b input) t.rest
+          (splits_bytes input.begun input.max (input.unread ++ bytes_of b) (frames_of b input) t.rest fits' t.split)
+          t.left),
+    )

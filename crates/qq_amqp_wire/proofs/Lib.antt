@@ -7,3 +7,4 @@ mod ProtocolLaws
 mod ReaderLaws
 mod MoreLaws
 mod CallLaws
+mod SpellingLaws

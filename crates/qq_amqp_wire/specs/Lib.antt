@@ -1,3 +1,4 @@
+pub mod Alike
 pub mod Arguments
 pub mod Calls
 pub mod Frames
