@@ -8,6 +8,7 @@ use Rattle.std.proofs.Math.Seq.{take-nil}
 use Rattle.qq_base.specs.Fields.{AreBytes}
 use Rattle.qq_amqp_wire.specs.Frames.{agree, Found, frame_at, protocol_at, found_at}
 use Rattle.qq_amqp_wire.specs.Grammar.{Spells, HasOtherProtocol, HasProtocolFault, HasFault, IsRead}
+use Rattle.qq_amqp_wire.specs.Writing.{written}
 use Rattle.qq_amqp_wire.specs.declared.fault.WireFault.{WireFault}
 use Rattle.qq_amqp_wire.specs.declared.fault.WireFault.TheVariants.{BadProtocol, BadType, TooLong, BadEnd, BadMethod, BadField, Memory}
 use Rattle.qq_amqp_wire.specs.declared.frame.Frame.{Frame}
@@ -136,3 +137,25 @@ fault_again false max bytes (BadMethod class number) fits f = absurd f
 fault_again false max bytes BadField fits f = absurd f
 fault_again false max bytes Memory fits f = absurd f
 fault_again true max bytes e fits f = frame_fault_again max bytes e fits f
+
+one_error : (r : Found) (d e : WireFault) → r ≡ Err d → r ≡ Err e → d ≡ e
+one_error r d e a b = cc
+
+pub same_fault : (begun : Bool) (max : ℕ) (bytes : List ℕ) (d e : WireFault) → AreBytes bytes
+    → HasFault begun max bytes d → HasFault begun max bytes e → d ≡ e
+same_fault begun max bytes d e fits f g =
+    one_error (found_at begun max bytes) d e (fault_again begun max bytes d fits f)
+    (fault_again begun max bytes e fits g)
+
+no_error : (r : Found) (x : Frame × ℕ) (e : WireFault) → r ≡ Ok (Some x) → r ≡ Err e → ⊥
+no_error r x e a b = cc
+
+pub frame_or_fault : (begun : Bool) (max : ℕ) (bytes : List ℕ) (f : Frame) (rest : List ℕ) (e : WireFault)
+    → AreBytes bytes → IsRead begun max bytes f rest → HasFault begun max bytes e → ⊥
+frame_or_fault begun max bytes f rest e fits read fault =
+    let again = found_again begun max bytes f rest read in
+    no_error (found_at begun max bytes) (f, again.taken) e again.found (fault_again begun max bytes e fits fault)
+
+pub protocol_written : (max : ℕ) (rest : List ℕ) → found_at false max (written Protocol ++ rest) ≡ Ok (Some (Protocol, 8))
+unfolding found_at written
+protocol_written max rest = protocol_again (kinds.PROTOCOL ++ rest) rest refl

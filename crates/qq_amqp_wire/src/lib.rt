@@ -9,6 +9,7 @@ mod fields;
 mod frame;
 mod head;
 mod kinds;
+mod laws;
 mod method;
 mod put;
 mod put_basic;
@@ -22,6 +23,10 @@ mod writing;
 
 pub use fault::WireFault;
 pub use frame::Frame;
+pub use laws::{
+    bytes_have_one_reading, frames_are_one_list, frames_read_back,
+    spellings_differ_in_what_is_reserved,
+};
 pub use method::Method;
 pub use reader::Reader;
 pub use writing::write_frame;
