@@ -1,6 +1,6 @@
 -- Arguments and their spellings.
 use Rattle.std.proofs.Common.{◌≡◌, ℕ, zero, suc, ◌+◌, ◌*◌, ◌/◌, ◌%◌, ◌^◌, ◌<◌, ◌≤◌, Bool, true, false, cond, eqb, ltb, List, [], ◌∷◌, ◌++◌, length, Option, Some, None, Result, Ok, Err, refl, sym, ap, subst, ◌∙◌, append_assoc, arith, lit<}
-use Rattle.std.specs.Prelude.{IfErr, ◌==◌, ◌&&◌, nat_le}
+use Rattle.std.specs.Prelude.{IfErr, ◌&&◌, nat_le}
 use Rattle.std.specs.Int.{Width, w8, w16, w32, w64}
 use Rattle.std.specs.Str.{IsUtf8, is_utf8}
 use Rattle.std.proofs.lemmas.Str.{is_utf8-from_IsUtf8, IsUtf8-from_is_utf8}
@@ -15,7 +15,7 @@ use Rattle.qq_fields.specs.Writing.{u8, u32}
 use Rattle.qq_fields.proofs.Laws.{Takes, Takes-then, Holds, Holds-map, Reads, here, then_ok, where_true, in_turn, u8-reads, u16-reads, u32-reads, u64-reads, bytes-takes, bytes-again}
 use Rattle.qq_amqp_wire.specs.declared.fault.WireFault.{WireFault}
 use Rattle.qq_amqp_wire.specs.declared.fault.WireFault.TheVariants.{BadField}
-use Rattle.qq_amqp_wire.specs.Arguments.{Domain, Octet, Short, Long, LongLong, ShortStr, LongStr, Of, IsOf, short_str, long_str, bytes_of, nothing, Bools, bits_of, byte_of, Argument, Given, Reserved, Bits, Parts, Values, ArePartsInRange, AreInRange, text_of, values_of, parts_of, Field, number_at, bytes_at, short_str_at, long_str_at, value_at, OfValues, at_bits, at_values, made_at}
+use Rattle.qq_amqp_wire.specs.Arguments.{Domain, Octet, Short, Long, LongLong, ShortStr, LongStr, IsOf, short_str, long_str, bytes_of, nothing, Bools, bits_of, byte_of, Argument, Given, Reserved, Bits, Parts, Values, ArePartsInRange, AreInRange, text_of, values_of, parts_of, number_at, bytes_at, short_str_at, long_str_at, value_at, OfValues, at_bits, at_values, made_at}
 
 -- ---- values
 

@@ -1,6 +1,6 @@
 -- However the bytes come, the frames that are handed out are those of the grammar.
-use Rattle.std.proofs.Common.{◌≡◌, ◌⊎◌, ℕ, ◌+◌, ◌≤◌, Bool, true, false, List, [], ◌∷◌, ◌++◌, length, take, drop, Option, Some, None, Result, Ok, Err, refl, sym, ap, subst, ◌∙◌, append_assoc, append-nil, arith}
-use Rattle.std.proofs.lemmas.List.{take_at, drop_at, length-append}
+use Rattle.std.proofs.Common.{◌≡◌, ℕ, Bool, true, List, [], ◌∷◌, ◌++◌, length, drop, Option, Some, None, Result, Ok, Err, refl, sym, ap, subst, ◌∙◌, append_assoc, append-nil}
+use Rattle.std.proofs.lemmas.List.{take_at, drop_at}
 use Rattle.qq_base.proofs.Fronts.{front-refl, front-nil, longer_front, front-same}
 use Rattle.qq_base.proofs.Numbers.{AreBytes-take}
 use Rattle.qq_base.specs.Fields.{AreBytes}
@@ -8,7 +8,7 @@ use Rattle.qq_base.specs.Fronts.{IsFront}
 use Rattle.qq_fields.proofs.Laws.{AreBytes-drop}
 use Rattle.qq_amqp_wire.specs.Calls.{Call, Feeds, Asks, bytes_of, left_of, handed, frames_of, Splits, begun_by, IsLeftBy, AreSplit, IsDrained}
 use Rattle.qq_amqp_wire.specs.Frames.{Found, found_at}
-use Rattle.qq_amqp_wire.specs.Grammar.{HasFault, IsRead}
+use Rattle.qq_amqp_wire.specs.Grammar.{IsRead}
 use Rattle.qq_amqp_wire.specs.Input.{Input, Step, fed_by, fed, next_by, step_by, next}
 use Rattle.qq_amqp_wire.specs.declared.fault.WireFault.{WireFault}
 use Rattle.qq_amqp_wire.specs.declared.frame.Frame.{Frame}

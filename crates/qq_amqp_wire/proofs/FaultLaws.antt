@@ -1,5 +1,5 @@
 -- What is found at the front of bytes: a frame in its spelling, or a fault where the grammar has it.
-use Rattle.std.proofs.Common.{◌≡◌, ℕ, suc, ◌+◌, ◌-◌, ◌^◌, ◌<◌, ◌≤◌, Bool, true, false, cond, eqb, ltb, List, ◌∷◌, ◌++◌, length, take, drop, get_or, Option, Some, None, Result, Ok, Err, refl, sym, ap, subst, ◌∙◌, append_assoc, arith}
+use Rattle.std.proofs.Common.{◌≡◌, ℕ, suc, ◌+◌, ◌-◌, ◌^◌, ◌<◌, ◌≤◌, Bool, true, false, cond, eqb, ltb, List, ◌∷◌, ◌++◌, length, take, drop, get_or, Some, None, Result, Ok, Err, refl, sym, ap, subst, ◌∙◌, arith}
 use Rattle.std.proofs.lemmas.Bool.{ltb-true, ltb-false, lt-ltb, le-ltb, eqb-true, eqb-false, ne_eqb}
 use Rattle.std.proofs.lemmas.List.{drop_at, take-append-drop, length-append, length-take-le}
 use Rattle.std.proofs.Math.Seq.{drop-cons, get_or-append_seam, take-append_seam}
@@ -10,7 +10,7 @@ use Rattle.qq_fields.specs.Reading.{◌>>=◌}
 use Rattle.qq_fields.specs.Writing.{u8, u16, u32}
 use Rattle.qq_fields.proofs.Laws.{known, AreBytes-drop}
 use Rattle.qq_amqp_wire.specs.Frames.{payload_in, is_kind, has_bad_kind, head_at, Found, frame_of, frame_by, frame_at}
-use Rattle.qq_amqp_wire.specs.Grammar.{SpellsPayload, IsShort, SpellsFrame, HasNoKind, IsTooLong, HasNoEnd, HasPayloadFault, HasBadPayload, HasFrameFault, HasFault, IsRead}
+use Rattle.qq_amqp_wire.specs.Grammar.{IsShort, HasNoKind, IsTooLong, HasNoEnd, HasBadPayload, HasFrameFault, HasFault, IsRead}
 use Rattle.qq_amqp_wire.specs.Writing.{kind_of, channel_of, framed}
 use Rattle.qq_amqp_wire.specs.declared.fault.WireFault.{WireFault}
 use Rattle.qq_amqp_wire.specs.declared.fault.WireFault.TheVariants.{BadProtocol, BadType, TooLong, BadEnd, BadMethod, BadField, Memory}

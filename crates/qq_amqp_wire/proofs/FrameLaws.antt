@@ -1,28 +1,23 @@
 -- Frames and their spellings, and where faults stand.
-use Rattle.std.proofs.Common.{◌≡◌, ◌⊎◌, ℕ, zero, suc, ◌+◌, ◌-◌, ◌%◌, ◌^◌, ◌<◌, ◌≤◌, Bool, true, false, cond, eqb, ltb, List, [], ◌∷◌, ◌++◌, length, take, drop, get_or, Option, Some, None, Result, Ok, Err, refl, sym, ap, subst, ◌∙◌, append_assoc, append-nil, arith, lit<, inl, inr}
-use Rattle.std.specs.Prelude.{nat_eq, ◌==◌}
+use Rattle.std.proofs.Common.{◌≡◌, ℕ, ◌+◌, ◌-◌, ◌%◌, ◌^◌, ◌<◌, Bool, true, false, cond, ltb, List, [], ◌∷◌, ◌++◌, length, get_or, Some, Ok, refl, sym, ap, ◌∙◌, append_assoc, arith, lit<}
 use Rattle.std.specs.Int.{w8, w16, w32}
-use Rattle.std.specs.Cmp.Lexicographic.{pointwise, same_text, other_text}
-use Rattle.std.proofs.lemmas.Bool.{cases_Bool, ltb-true, ltb-false, lt-ltb, le-ltb, eqb-true, eqb-false, ne_eqb}
-use Rattle.std.proofs.lemmas.List.{take_at, drop_at, take-append-drop, length-append, length-take, length-take-le, take_all}
+use Rattle.std.proofs.lemmas.Bool.{le-ltb}
+use Rattle.std.proofs.lemmas.List.{length-append}
 use Rattle.std.proofs.Math.Nat.{mod-eq_of_lt}
-use Rattle.std.proofs.Math.Seq.{drop-cons, get_or-append_seam, take-append_seam}
+use Rattle.std.proofs.Math.Seq.{get_or-append_seam, take-append_seam}
 use Rattle.qq_base.specs.Fields.{AreBytes}
-use Rattle.qq_base.proofs.Numbers.{AreBytes-take}
 use Rattle.qq_fields.specs.Reading as fields
 use Rattle.qq_fields.specs.Reading.{◌>>=◌}
 use Rattle.qq_fields.specs.Writing.{u8, u16, u32}
-use Rattle.qq_fields.proofs.Laws.{Takes, Holds, known, here, then_ok, in_turn, u8-reads, u16-reads, u32-reads}
-use Rattle.qq_amqp_wire.specs.Frames.{payload_in, is_kind, has_bad_kind, head_at, Found, frame_of, frame_by, frame_at}
-use Rattle.qq_amqp_wire.specs.Grammar.{SpellsPayload, IsShort, SpellsFrame, Spells, HasNoKind, IsTooLong, HasNoEnd, HasPayloadFault, HasBadPayload, HasFrameFault, IsRead}
+use Rattle.qq_fields.proofs.Laws.{Holds, known, here, then_ok, in_turn, u8-reads, u16-reads, u32-reads}
+use Rattle.qq_amqp_wire.specs.Frames.{payload_in, is_kind, has_bad_kind, head_at, frame_of, frame_at}
+use Rattle.qq_amqp_wire.specs.Grammar.{SpellsPayload, IsShort, SpellsFrame, HasNoKind}
 use Rattle.qq_amqp_wire.specs.Writing.{kind_of, channel_of, framed}
-use Rattle.qq_amqp_wire.specs.declared.fault.WireFault.{WireFault}
-use Rattle.qq_amqp_wire.specs.declared.fault.WireFault.TheVariants.{BadProtocol, BadType, TooLong, BadEnd, BadMethod, BadField, Memory}
 use Rattle.qq_amqp_wire.specs.declared.frame.Frame.{Frame}
 use Rattle.qq_amqp_wire.specs.declared.frame.Frame.TheVariants.{Protocol, Method as MethodFrame, Header, Body, Heartbeat}
 use Rattle.qq_amqp_wire.specs.declared.head.Head.{Head}
 use Rattle.qq_amqp_wire.specs.declared.kinds.TheConstants as kinds
-use Rattle.qq_amqp_wire.proofs.PayloadLaws.{payload_takes, payload_again, payload_fault, payload_fault_again}
+use Rattle.qq_amqp_wire.proofs.PayloadLaws.{payload_again}
 
 -- ---- heads
 

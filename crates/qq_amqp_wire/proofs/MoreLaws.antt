@@ -1,9 +1,9 @@
 -- What stands at the front of bytes stands there whatever comes behind it.
-use Rattle.std.proofs.Common.{◌≡◌, ◌≢◌, ℕ, ◌+◌, ◌<◌, ◌≤◌, Bool, true, false, List, ◌∷◌, ◌++◌, length, get_or, refl, sym, ap, subst, ◌∙◌, append_assoc, arith}
+use Rattle.std.proofs.Common.{◌≡◌, ℕ, Bool, true, false, List, ◌∷◌, ◌++◌, length, sym, ap, ◌∙◌, append_assoc, arith}
 use Rattle.std.proofs.lemmas.List.{length-append}
 use Rattle.std.proofs.Math.ListN.{get_or-append}
 use Rattle.qq_fields.specs.Writing.{u8, u16, u32}
-use Rattle.qq_amqp_wire.specs.Grammar.{HasOtherProtocol, HasNoKind, IsTooLong, HasNoEnd, HasBadPayload, HasFrameFault, HasFault, IsRead}
+use Rattle.qq_amqp_wire.specs.Grammar.{HasOtherProtocol, HasBadPayload, HasFrameFault, HasFault, IsRead}
 use Rattle.qq_amqp_wire.specs.Writing.{framed}
 use Rattle.qq_amqp_wire.specs.declared.fault.WireFault.{WireFault}
 use Rattle.qq_amqp_wire.specs.declared.fault.WireFault.TheVariants.{BadProtocol, BadType, TooLong, BadEnd, BadMethod, BadField, Memory}

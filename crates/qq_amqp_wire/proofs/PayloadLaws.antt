@@ -1,16 +1,16 @@
 -- Payloads and their spellings, and which fault a payload is that spells nothing.
-use Rattle.std.proofs.Common.{◌≡◌, ℕ, ◌+◌, ◌^◌, ◌<◌, Bool, true, false, cond, eqb, List, [], ◌∷◌, ◌++◌, length, Option, Some, None, Result, Ok, Err, refl, sym, ap, subst, ◌∙◌, append_assoc, append-nil, arith, lit<}
-use Rattle.std.specs.Prelude.{IfOk, IfErr, ◌==◌, ◌||◌, IsSome}
+use Rattle.std.proofs.Common.{◌≡◌, ℕ, ◌^◌, ◌<◌, Bool, true, false, cond, eqb, List, [], ◌∷◌, ◌++◌, Option, Some, None, Result, Ok, Err, refl, sym, ap, subst, ◌∙◌, append-nil}
+use Rattle.std.specs.Prelude.{IfErr, IsSome}
 use Rattle.std.specs.Int.{w16, w64}
-use Rattle.std.proofs.lemmas.Bool.{cases_Bool, eqb-true, eqb-false}
+use Rattle.std.proofs.lemmas.Bool.{eqb-true, eqb-false}
 use Rattle.qq_base.specs.Fields.{AreBytes}
 use Rattle.qq_fields.specs.Reading.{◌>>=◌, required}
-use Rattle.qq_fields.specs.Writing.{u16, u64}
-use Rattle.qq_fields.proofs.Laws.{Takes, Takes-then, Holds, Holds-map, known, here, then_ok, then_known, in_turn, u16-reads, u64-reads}
-use Rattle.qq_amqp_wire.specs.Arguments.{Parts, ArePartsInRange, Field, text_of, values_of, at_values, number_at, made_at}
+use Rattle.qq_fields.specs.Writing.{u16}
+use Rattle.qq_fields.proofs.Laws.{Takes, Holds, Holds-map, known, here, then_ok, in_turn, u16-reads, u64-reads}
+use Rattle.qq_amqp_wire.specs.Arguments.{Field, text_of, at_values, number_at}
 use Rattle.qq_amqp_wire.specs.Frames.{whole, method_in, header_in, payload_in, is_kind}
 use Rattle.qq_amqp_wire.specs.Grammar.{SpellsMethod, SpellsHeader, SpellsPayload, NamesNoMethod, SpellsNothing, HasPayloadFault}
-use Rattle.qq_amqp_wire.specs.Rows.{Row, row_at, row_of, values_in, made_by, arguments_at}
+use Rattle.qq_amqp_wire.specs.Rows.{Row, row_at, row_of, made_by, arguments_at}
 use Rattle.qq_amqp_wire.specs.Writing.{kind_of, channel_of}
 use Rattle.qq_amqp_wire.specs.declared.fault.WireFault.{WireFault}
 use Rattle.qq_amqp_wire.specs.declared.fault.WireFault.TheVariants.{BadProtocol, BadType, TooLong, BadEnd, BadMethod, BadField, Memory}
@@ -19,7 +19,7 @@ use Rattle.qq_amqp_wire.specs.declared.frame.Frame.TheVariants.{Protocol, Method
 use Rattle.qq_amqp_wire.specs.declared.kinds.TheConstants as kinds
 use Rattle.qq_amqp_wire.specs.declared.method.Method.{Method}
 use Rattle.qq_amqp_wire.proofs.ArgumentLaws.{Tells, made_takes, made_again, MayBadField, bad_then, number_bad, made_bad}
-use Rattle.qq_amqp_wire.proofs.RowLaws.{has_row, IsRow, is_row}
+use Rattle.qq_amqp_wire.proofs.RowLaws.{has_row, is_row}
 
 -- ---- methods
 

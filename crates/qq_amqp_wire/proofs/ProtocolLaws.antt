@@ -1,13 +1,12 @@
 -- What stands before the first frame, and with it what stands at the front of bytes.
-use Rattle.std.proofs.Common.{◌≡◌, ◌≢◌, ℕ, zero, suc, ◌+◌, ◌<◌, ◌≤◌, Bool, true, false, cond, eqb, ltb, List, [], ◌∷◌, ◌++◌, length, take, drop, get_or, Option, Some, None, Result, Ok, Err, refl, sym, ap, subst, ◌∙◌, append_assoc, append-nil, arith, inl, inr}
-use Rattle.std.specs.Prelude.{nat_eq}
-use Rattle.std.specs.Cmp.Lexicographic.{pointwise, same_text, other_text}
-use Rattle.std.proofs.lemmas.Bool.{cases_Bool, ltb-true, ltb-false, le-ltb, eqb-true, eqb-false, cond-true, cond-false}
-use Rattle.std.proofs.lemmas.List.{take_at, drop_at, take-append-drop, take-append-le, length-append, take_all, get_or-take}
+use Rattle.std.proofs.Common.{◌≡◌, ◌≢◌, ℕ, suc, ◌+◌, ◌<◌, ◌≤◌, Bool, true, false, eqb, ltb, List, [], ◌∷◌, ◌++◌, length, take, drop, get_or, Some, None, Ok, Err, refl, sym, ap, subst, ◌∙◌, arith, inl, inr}
+use Rattle.std.specs.Cmp.Lexicographic.{same_text, other_text}
+use Rattle.std.proofs.lemmas.Bool.{cases_Bool, ltb-false, le-ltb, eqb-true, eqb-false}
+use Rattle.std.proofs.lemmas.List.{take_at, drop_at, take-append-drop, length-append, take_all, get_or-take}
 use Rattle.std.proofs.Math.Seq.{take-nil}
 use Rattle.qq_base.specs.Fields.{AreBytes}
-use Rattle.qq_amqp_wire.specs.Frames.{agree, Found, frame_at, protocol_at, found_at}
-use Rattle.qq_amqp_wire.specs.Grammar.{Spells, HasOtherProtocol, HasProtocolFault, HasFault, IsRead}
+use Rattle.qq_amqp_wire.specs.Frames.{agree, Found, protocol_at, found_at}
+use Rattle.qq_amqp_wire.specs.Grammar.{HasOtherProtocol, HasFault, IsRead, IsPartial}
 use Rattle.qq_amqp_wire.specs.Writing.{written}
 use Rattle.qq_amqp_wire.specs.declared.fault.WireFault.{WireFault}
 use Rattle.qq_amqp_wire.specs.declared.fault.WireFault.TheVariants.{BadProtocol, BadType, TooLong, BadEnd, BadMethod, BadField, Memory}
@@ -159,3 +158,50 @@ frame_or_fault begun max bytes f rest e fits read fault =
 pub protocol_written : (max : ℕ) (rest : List ℕ) → found_at false max (written Protocol ++ rest) ≡ Ok (Some (Protocol, 8))
 unfolding found_at written
 protocol_written max rest = protocol_again (kinds.PROTOCOL ++ rest) rest refl
+
+-- ---- exactly there
+
+pub frame_there : (begun : Bool) (max : ℕ) (bytes : List ℕ) (f : Frame) (rest : List ℕ) → IsRead begun max bytes f rest
+    → (n : ℕ) × ((found_at begun max bytes ≡ Ok (Some (f, n))) × (drop n bytes ≡ rest))
+frame_there begun max bytes f rest read =
+    let again = found_again begun max bytes f rest read in
+    (again.taken, (again.found, again.left))
+
+read_of : (begun : Bool) (max : ℕ) (bytes : List ℕ) (r : Found) (x : Frame × ℕ) → Finds begun max bytes r
+    → r ≡ Ok (Some x) → IsRead begun max bytes x.0 (drop x.1 bytes)
+read_of begun max bytes r x f is =
+    let there : Finds begun max bytes (Ok (Some x)) = subst (Finds begun max bytes) is f in
+    there.value
+
+pub frame_alone : (begun : Bool) (max : ℕ) (bytes : List ℕ) (f : Frame) (n : ℕ) → AreBytes bytes
+    → found_at begun max bytes ≡ Ok (Some (f, n)) → IsRead begun max bytes f (drop n bytes)
+frame_alone begun max bytes f n fits is =
+    read_of begun max bytes (found_at begun max bytes) (f, n) (finds begun max bytes fits) is
+
+pub fault_alone : (begun : Bool) (max : ℕ) (bytes : List ℕ) (e : WireFault) → AreBytes bytes
+    → found_at begun max bytes ≡ Err e → HasFault begun max bytes e
+fault_alone begun max bytes e fits is =
+    let there : Finds begun max bytes (Err e) = subst (Finds begun max bytes) is (finds begun max bytes fits) in
+    there.value
+
+pub none_there : (begun : Bool) (max : ℕ) (bytes : List ℕ) → AreBytes bytes → IsPartial begun max bytes
+    → found_at begun max bytes ≡ Ok None
+none_there begun max bytes fits p = by (found_at begun max bytes) refl
+  where
+    by : (r : Found) → found_at begun max bytes ≡ r → r ≡ Ok None
+    by (Ok None) is = refl
+    by (Ok (Some x)) is = absurd (p.none x.0 (drop x.1 bytes) (frame_alone begun max bytes x.0 x.1 fits is))
+    by (Err e) is = absurd (p.sound e (fault_alone begun max bytes e fits is))
+
+pub none_alone : (begun : Bool) (max : ℕ) (bytes : List ℕ) → AreBytes bytes → found_at begun max bytes ≡ Ok None
+    → IsPartial begun max bytes
+none_alone begun max bytes fits is = record {
+  none = λ f rest read. none_some (found_at begun max bytes) _ is (found_again begun max bytes f rest read).found;
+  sound = λ e fault. none_error (found_at begun max bytes) e is (fault_again begun max bytes e fits fault);
+}
+  where
+    none_some : (r : Found) (x : Frame × ℕ) → r ≡ Ok None → r ≡ Ok (Some x) → ⊥
+    none_some r x a b = cc
+
+    none_error : (r : Found) (e : WireFault) → r ≡ Ok None → r ≡ Err e → ⊥
+    none_error r e a b = cc

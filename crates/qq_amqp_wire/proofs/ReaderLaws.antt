@@ -2,7 +2,7 @@
 use Rattle.std.proofs.Common.{◌≡◌, ℕ, true, List, [], drop, Option, Some, None, Result, Ok, Err, refl, sym, ap, subst, ◌∙◌}
 use Rattle.std.specs.Prelude.{IfOk, IfErr, IfSome, IfNone}
 use Rattle.qq_base.specs.Fields.{AreBytes}
-use Rattle.qq_fields.specs.Reading.{Gives, Fails}
+use Rattle.qq_fields.specs.Reading.{Gives}
 use Rattle.qq_amqp_wire.specs.Arguments.{memory_of}
 use Rattle.qq_amqp_wire.specs.Frames.{Found, found_at}
 use Rattle.qq_amqp_wire.specs.Grammar.{HasFault, IsRead, IsPartial}

@@ -1,15 +1,14 @@
 -- What is written is a spelling, and spellings of one frame are alike.
-use Rattle.std.proofs.Common.{◌≡◌, ◌≢◌, ℕ, ◌+◌, ◌-◌, ◌^◌, ◌<◌, ◌≤◌, true, false, List, [], ◌∷◌, ◌++◌, length, Some, Ok, refl, sym, ap, subst, ◌∙◌, arith, lit<}
-use Rattle.qq_fields.specs.Writing.{u16, u64}
-use Rattle.qq_amqp_wire.specs.Alike.{AreAlike, MethodsAlike, HeadersAlike, PayloadsAlike, FramesAlike}
-use Rattle.qq_amqp_wire.specs.Arguments.{Argument, Given, Reserved, Bits, bits_of, Bools, Of, Parts, Values, text_of, values_of, parts_of}
+use Rattle.std.proofs.Common.{◌≡◌, ◌≢◌, ℕ, ◌-◌, ◌≤◌, true, List, [], ◌∷◌, ◌++◌, length, Some, Ok, refl, sym, ap, ◌∙◌, lit<}
+use Rattle.qq_fields.specs.Writing.{u16}
+use Rattle.qq_amqp_wire.specs.Alike.{AreAlike, PayloadsAlike, FramesAlike}
+use Rattle.qq_amqp_wire.specs.Arguments.{Argument, Given, Reserved, Bits, Bools, Of, Parts, Values, text_of, values_of, parts_of}
 use Rattle.qq_amqp_wire.specs.Frames.{found_at}
-use Rattle.qq_amqp_wire.specs.Grammar.{SpellsMethod, SpellsPayload, IsShort, SpellsFrame}
+use Rattle.qq_amqp_wire.specs.Grammar.{SpellsMethod, SpellsPayload, SpellsFrame}
 use Rattle.qq_amqp_wire.specs.Rows.{row_of, values_in}
 use Rattle.qq_amqp_wire.specs.Writing.{kind_of, channel_of, framed, method_bytes, header_bytes, payload_of, written, HasFields, IsWritable}
 use Rattle.qq_amqp_wire.specs.declared.frame.Frame.{Frame}
 use Rattle.qq_amqp_wire.specs.declared.frame.Frame.TheVariants.{Protocol, Method as MethodFrame, Header, Body, Heartbeat}
-use Rattle.qq_amqp_wire.specs.declared.kinds.TheConstants as kinds
 use Rattle.qq_amqp_wire.specs.declared.method.Method.{Method}
 use Rattle.qq_amqp_wire.proofs.ArgumentLaws.{told_again, parts_fit}
 use Rattle.qq_amqp_wire.proofs.FrameLaws.{frame_again}

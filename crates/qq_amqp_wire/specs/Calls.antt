@@ -1,7 +1,7 @@
 -- A reader's calls between two that set the most bytes of a frame, each of which had memory. Pieces may be cut anywhere.
-use Rattle.std.specs.Prelude.{◌≡◌, ℕ, Bool, true, List, [], ◌∷◌, ◌++◌, Option, Some, None, Result, Ok, Err}
+use Rattle.std.specs.Prelude.{◌≡◌, ℕ, Bool, true, List, [], ◌∷◌, ◌++◌, Option, Some, None, Result, Ok}
 use Rattle.qq_amqp_wire.specs.Grammar.{HasFault, IsRead}
-use Rattle.qq_amqp_wire.specs.Input.{Input, Step, fed, next}
+use Rattle.qq_amqp_wire.specs.Input.{Input, fed, next}
 use Rattle.qq_amqp_wire.specs.declared.fault.WireFault.{WireFault}
 use Rattle.qq_amqp_wire.specs.declared.frame.Frame.{Frame}
 

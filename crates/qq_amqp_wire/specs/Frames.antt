@@ -1,10 +1,10 @@
 -- Reading the frame at the front of bytes, with the first fault that applies (AMQP 0-9-1, sections 4.2.2 and 4.2.3).
-use Rattle.std.specs.Prelude.{◌≡◌, ◌+◌, ◌-◌, ◌==◌, ◌||◌, ℕ, Bool, true, false, List, [], ◌∷◌, length, take, drop, Option, Some, None, Result, Ok, Err, nat_eq, nat_lt, is_none, slice_index, if◌then◌else◌}
+use Rattle.std.specs.Prelude.{◌+◌, ◌-◌, ◌==◌, ◌||◌, ℕ, Bool, true, false, List, [], ◌∷◌, length, take, Option, Some, None, Result, Ok, Err, nat_eq, nat_lt, slice_index, if◌then◌else◌}
 use Rattle.std.specs.Int.{w8, w16, w32, w64}
 use Rattle.std.specs.Cmp.Lexicographic.{pointwise}
 use Rattle.qq_fields.specs.Reading as fields
 use Rattle.qq_fields.specs.Reading.{◌>>=◌}
-use Rattle.qq_amqp_wire.specs.Arguments.{Field, number_at}
+use Rattle.qq_amqp_wire.specs.Arguments.{number_at}
 use Rattle.qq_amqp_wire.specs.Rows.{arguments_at}
 use Rattle.qq_amqp_wire.specs.declared.fault.WireFault.{WireFault}
 use Rattle.qq_amqp_wire.specs.declared.fault.WireFault.TheVariants.{BadProtocol, BadType, TooLong, BadEnd, BadField}

@@ -2,7 +2,7 @@
 -- reserved (AMQP 0-9-1, section 1.8 and the classes after it). A bit that is reserved has a byte of its own, so it is
 -- a reserved octet.
 use Rattle.std.specs.Prelude.{◌==◌, ℕ, List, [], ◌∷◌, Option, find, if◌then◌else◌}
-use Rattle.qq_amqp_wire.specs.Arguments.{Domain, Octet, Short, Long, LongLong, ShortStr, LongStr, Argument, Given, Reserved, Bits, OfValues, Values, Field, made_at}
+use Rattle.qq_amqp_wire.specs.Arguments.{Octet, Short, Long, LongLong, ShortStr, LongStr, Argument, Given, Reserved, Bits, OfValues, Values, Field, made_at}
 use Rattle.qq_fields.specs.Reading.{◌>>=◌, required}
 use Rattle.qq_amqp_wire.specs.declared.fault.WireFault.TheVariants.{BadMethod}
 use Rattle.qq_amqp_wire.specs.declared.method.Method.{Method}

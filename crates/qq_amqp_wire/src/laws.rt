@@ -1,5 +1,5 @@
 //! Laws of frames and their bytes.
-ghost use Rattle.std.specs.Prelude.{◌≡◌, ◌≢◌, ◌≤◌, ◌-◌, ◌++◌, ℕ, List, Bool, true, false, Some, None, Ok, length};
+ghost use Rattle.std.specs.Prelude.{◌≡◌, ◌≢◌, ◌≤◌, ◌-◌, ◌++◌, ℕ, List, Bool, true, false, Some, None, Ok, Err, drop, length};
 ghost use Rattle.qq_base.specs.Fields.{AreBytes};
 ghost use Rattle.qq_base.specs.Fronts.{IsFront};
 ghost use Rattle.qq_fields.specs.Writing.{u16};
@@ -7,7 +7,7 @@ ghost use Rattle.qq_amqp_wire.specs.Alike.{FramesAlike};
 ghost use Rattle.qq_amqp_wire.specs.Arguments.{text_of, parts_of, values_of};
 ghost use Rattle.qq_amqp_wire.specs.Calls.{Call, bytes_of, left_of, frames_of, Splits, AreSplit, IsDrained};
 ghost use Rattle.qq_amqp_wire.specs.Frames.{found_at};
-ghost use Rattle.qq_amqp_wire.specs.Grammar.{SpellsMethod, SpellsFrame, HasFault, IsRead};
+ghost use Rattle.qq_amqp_wire.specs.Grammar.{SpellsMethod, SpellsFrame, HasFault, IsRead, IsPartial};
 ghost use Rattle.qq_amqp_wire.specs.Input.{Input, next};
 ghost use Rattle.qq_amqp_wire.specs.Rows.{row_of};
 ghost use Rattle.qq_amqp_wire.specs.Writing.{payload_of, method_bytes, written, IsWritable};
@@ -60,6 +60,24 @@ pub fn bytes_have_one_reading()
         → IsRead begun max bytes f rest → IsRead begun max (bytes ++ more) f (rest ++ more) }
     ensures fault_stays { (begun : Bool) (max : ℕ) (bytes more : List ℕ) (e : WireFault)
         → HasFault begun max bytes e → HasFault begun max (bytes ++ more) e }
+{}
+
+/// A law: a frame is found exactly where its spelling stands, a fault exactly where the grammar has it, and
+/// nothing exactly where neither stands.
+pub fn what_is_found_stands_there()
+    ensures frame { (begun : Bool) (max : ℕ) (bytes : List ℕ) (f : Frame) (rest : List ℕ)
+        → IsRead begun max bytes f rest
+        → (n : ℕ) × ((found_at begun max bytes ≡ Ok (Some (f, n))) × (drop n bytes ≡ rest)) }
+    ensures frame_alone { (begun : Bool) (max : ℕ) (bytes : List ℕ) (f : Frame) (n : ℕ) → AreBytes bytes
+        → found_at begun max bytes ≡ Ok (Some (f, n)) → IsRead begun max bytes f (drop n bytes) }
+    ensures fault { (begun : Bool) (max : ℕ) (bytes : List ℕ) (e : WireFault) → AreBytes bytes
+        → HasFault begun max bytes e → found_at begun max bytes ≡ Err e }
+    ensures fault_alone { (begun : Bool) (max : ℕ) (bytes : List ℕ) (e : WireFault) → AreBytes bytes
+        → found_at begun max bytes ≡ Err e → HasFault begun max bytes e }
+    ensures none { (begun : Bool) (max : ℕ) (bytes : List ℕ) → AreBytes bytes
+        → IsPartial begun max bytes → found_at begun max bytes ≡ Ok None }
+    ensures none_alone { (begun : Bool) (max : ℕ) (bytes : List ℕ) → AreBytes bytes
+        → found_at begun max bytes ≡ Ok None → IsPartial begun max bytes }
 {}
 
 /// A law: what is written of a frame is read again as that frame, whatever follows it.

@@ -19,6 +19,7 @@ mod put_queue;
 mod queue;
 mod reader;
 mod reading;
+mod worked;
 mod writing;
 
 pub use fault::WireFault;
@@ -29,4 +30,8 @@ pub use laws::{
 };
 pub use method::Method;
 pub use reader::Reader;
+pub use worked::{
+    basic_methods_have_these_bytes, channel_and_queue_methods_have_these_bytes,
+    connection_methods_have_these_bytes, worked_faults_are_found, worked_frames_are_found,
+};
 pub use writing::write_frame;
