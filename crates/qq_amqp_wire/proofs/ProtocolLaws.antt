@@ -6,8 +6,7 @@ use Rattle.std.proofs.lemmas.List.{take_at, drop_at, take-append-drop, length-ap
 use Rattle.std.proofs.Math.Seq.{take-nil}
 use Rattle.qq_base.specs.Fields.{AreBytes}
 use Rattle.qq_amqp_wire.specs.Frames.{agree, Found, protocol_at, found_at}
-use Rattle.qq_amqp_wire.specs.Grammar.{HasOtherProtocol, HasFault, IsRead, IsPartial}
-use Rattle.qq_amqp_wire.specs.Writing.{written}
+use Rattle.qq_amqp_wire.specs.Grammar.{Spells, HasOtherProtocol, HasFault, IsRead, IsPartial}
 use Rattle.qq_amqp_wire.specs.declared.fault.WireFault.{WireFault}
 use Rattle.qq_amqp_wire.specs.declared.fault.WireFault.TheVariants.{BadProtocol, BadType, TooLong, BadEnd, BadMethod, BadField, Memory}
 use Rattle.qq_amqp_wire.specs.declared.frame.Frame.{Frame}
@@ -125,6 +124,16 @@ found_again true max bytes f rest r = record {
   left = ap (drop (length r.text)) r.is ∙ drop_at r.text rest (length r.text) refl;
 }
 
+-- a spelling is found, whatever follows it
+pub text_again : (begun : Bool) (max : ℕ) (f : Frame) (text bytes rest : List ℕ) → Spells begun max f text
+    → bytes ≡ text ++ rest → found_at begun max bytes ≡ Ok (Some (f, length text))
+unfolding found_at
+text_again false max f text bytes rest s e =
+    let is : bytes ≡ kinds.PROTOCOL ++ rest = e ∙ ap (λ (t : List ℕ). t ++ rest) s.1 in
+    protocol_again bytes rest is ∙ ap (λ (g : Frame). Ok (Some (g, 8))) (sym s.0)
+    ∙ ap (λ (t : List ℕ). Ok (Some (f, length t))) (sym s.1)
+text_again true max f text bytes rest s e = frame_again max f text bytes rest s e
+
 pub fault_again : (begun : Bool) (max : ℕ) (bytes : List ℕ) (e : WireFault) → AreBytes bytes
     → HasFault begun max bytes e → found_at begun max bytes ≡ Err e
 unfolding found_at
@@ -154,10 +163,6 @@ pub frame_or_fault : (begun : Bool) (max : ℕ) (bytes : List ℕ) (f : Frame) (
 frame_or_fault begun max bytes f rest e fits read fault =
     let again = found_again begun max bytes f rest read in
     no_error (found_at begun max bytes) (f, again.taken) e again.found (fault_again begun max bytes e fits fault)
-
-pub protocol_written : (max : ℕ) (rest : List ℕ) → found_at false max (written Protocol ++ rest) ≡ Ok (Some (Protocol, 8))
-unfolding found_at written
-protocol_written max rest = protocol_again (kinds.PROTOCOL ++ rest) rest refl
 
 -- ---- exactly there
 

@@ -1,17 +1,17 @@
 -- What is written is a spelling, and spellings of one frame are alike.
-use Rattle.std.proofs.Common.{◌≡◌, ◌≢◌, ℕ, ◌-◌, ◌≤◌, true, List, [], ◌∷◌, ◌++◌, length, Some, Ok, refl, sym, ap, ◌∙◌, lit<}
+use Rattle.std.proofs.Common.{◌≡◌, ◌≢◌, ℕ, ◌-◌, ◌≤◌, List, [], ◌∷◌, ◌++◌, length, Some, Ok, refl, sym, ap, ◌∙◌, lit<}
 use Rattle.qq_fields.specs.Writing.{u16}
 use Rattle.qq_amqp_wire.specs.Alike.{AreAlike, PayloadsAlike, FramesAlike}
 use Rattle.qq_amqp_wire.specs.Arguments.{Argument, Given, Reserved, Bits, Bools, Of, Parts, Values, text_of, values_of, parts_of}
 use Rattle.qq_amqp_wire.specs.Frames.{found_at}
-use Rattle.qq_amqp_wire.specs.Grammar.{SpellsMethod, SpellsPayload, SpellsFrame}
+use Rattle.qq_amqp_wire.specs.Grammar.{Spells, SpellsMethod, SpellsPayload, SpellsFrame}
 use Rattle.qq_amqp_wire.specs.Rows.{row_of, values_in}
-use Rattle.qq_amqp_wire.specs.Writing.{kind_of, channel_of, framed, method_bytes, header_bytes, payload_of, written, HasFields, IsWritable}
+use Rattle.qq_amqp_wire.specs.Writing.{kind_of, channel_of, begun_at, framed, method_bytes, header_bytes, payload_of, written, HasFields, IsWritable}
 use Rattle.qq_amqp_wire.specs.declared.frame.Frame.{Frame}
 use Rattle.qq_amqp_wire.specs.declared.frame.Frame.TheVariants.{Protocol, Method as MethodFrame, Header, Body, Heartbeat}
 use Rattle.qq_amqp_wire.specs.declared.method.Method.{Method}
 use Rattle.qq_amqp_wire.proofs.ArgumentLaws.{told_again, parts_fit}
-use Rattle.qq_amqp_wire.proofs.FrameLaws.{frame_again}
+use Rattle.qq_amqp_wire.proofs.ProtocolLaws.{text_again}
 use Rattle.qq_amqp_wire.proofs.RowLaws.{has_row}
 
 -- ---- what is written is a spelling
@@ -51,11 +51,24 @@ written_spells max f other writable within = record {
   is = written_is f other;
 }
 
-pub written_again : (max : ℕ) (f : Frame) (rest : List ℕ) → f ≢ Protocol → IsWritable f
-    → length (payload_of f) ≤ max - 8 → found_at true max (written f ++ rest) ≡ Ok (Some (f, length (written f)))
-unfolding found_at
-written_again max f rest other writable within =
-    frame_again max f (written f) (written f ++ rest) rest (written_spells max f other writable within) refl
+-- what is written stands where its frame may
+pub written_stands : (max : ℕ) (f : Frame) → IsWritable f → length (payload_of f) ≤ max - 8
+    → Spells (begun_at f) max f (written f)
+unfolding written
+written_stands max Protocol writable within = (refl, refl)
+written_stands max (MethodFrame channel m) writable within =
+    written_spells max (MethodFrame channel m) (λ e. cc) writable within
+written_stands max (Header channel class size properties) writable within =
+    written_spells max (Header channel class size properties) (λ e. cc) writable within
+written_stands max (Body channel bytes) writable within =
+    written_spells max (Body channel bytes) (λ e. cc) writable within
+written_stands max (Heartbeat channel) writable within =
+    written_spells max (Heartbeat channel) (λ e. cc) writable within
+
+pub written_again : (max : ℕ) (f : Frame) (rest : List ℕ) → IsWritable f → length (payload_of f) ≤ max - 8
+    → found_at (begun_at f) max (written f ++ rest) ≡ Ok (Some (f, length (written f)))
+written_again max f rest writable within =
+    text_again (begun_at f) max f (written f) (written f ++ rest) rest (written_stands max f writable within) refl
 
 -- what is written has the parts of a spelling, with nothing in what is reserved
 pub written_cleared : (m : Method) (payload : List ℕ) (s : SpellsMethod m payload)

@@ -1,5 +1,5 @@
 -- The bytes that are written of each frame: what is reserved is zero or empty.
-use Rattle.std.specs.Prelude.{◌<◌, ◌^◌, ℕ, List, [], ◌∷◌, ◌++◌, length, ⊤}
+use Rattle.std.specs.Prelude.{◌<◌, ◌^◌, ℕ, Bool, true, false, List, [], ◌∷◌, ◌++◌, length, ⊤}
 use Rattle.qq_fields.specs.Writing.{u8, u16, u32, u64}
 use Rattle.qq_amqp_wire.specs.Arguments.{AreInRange, text_of, parts_of}
 use Rattle.qq_amqp_wire.specs.Rows.{row_of, values_in}
@@ -21,6 +21,11 @@ channel_of (MethodFrame channel m) = channel
 channel_of (Header channel class size properties) = channel
 channel_of (Body channel bytes) = channel
 channel_of (Heartbeat channel) = channel
+
+-- Whether a connection has begun where a frame stands: what begins it stands first.
+abbrev pub begun_at : Frame → Bool
+begun_at Protocol = false
+begun_at _ = true
 
 -- a frame of this type and channel with this payload
 unfoldable pub framed : ℕ → ℕ → List ℕ → List ℕ

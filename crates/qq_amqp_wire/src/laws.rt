@@ -1,5 +1,5 @@
 //! Laws of frames and their bytes.
-ghost use Rattle.std.specs.Prelude.{◌≡◌, ◌≢◌, ◌≤◌, ◌-◌, ◌++◌, ℕ, List, Bool, true, false, Some, None, Ok, Err, drop, length};
+ghost use Rattle.std.specs.Prelude.{◌≡◌, ◌≤◌, ◌-◌, ◌++◌, ℕ, List, Bool, true, false, Some, None, Ok, Err, drop, length};
 ghost use Rattle.qq_base.specs.Fields.{AreBytes};
 ghost use Rattle.qq_base.specs.Fronts.{IsFront};
 ghost use Rattle.qq_fields.specs.Writing.{u16};
@@ -7,13 +7,12 @@ ghost use Rattle.qq_amqp_wire.specs.Alike.{FramesAlike};
 ghost use Rattle.qq_amqp_wire.specs.Arguments.{text_of, parts_of, values_of};
 ghost use Rattle.qq_amqp_wire.specs.Calls.{Call, bytes_of, left_of, frames_of, Splits, AreSplit, IsDrained};
 ghost use Rattle.qq_amqp_wire.specs.Frames.{found_at};
-ghost use Rattle.qq_amqp_wire.specs.Grammar.{SpellsMethod, SpellsFrame, HasFault, IsRead, IsPartial};
+ghost use Rattle.qq_amqp_wire.specs.Grammar.{SpellsMethod, SpellsFrame, Spells, HasFault, IsRead, IsPartial};
 ghost use Rattle.qq_amqp_wire.specs.Input.{Input, next};
 ghost use Rattle.qq_amqp_wire.specs.Rows.{row_of};
-ghost use Rattle.qq_amqp_wire.specs.Writing.{payload_of, method_bytes, written, IsWritable};
+ghost use Rattle.qq_amqp_wire.specs.Writing.{begun_at, payload_of, method_bytes, written, IsWritable};
 ghost use Rattle.qq_amqp_wire.specs.declared.fault.WireFault.{WireFault};
 ghost use Rattle.qq_amqp_wire.specs.declared.frame.Frame.{Frame};
-ghost use Rattle.qq_amqp_wire.specs.declared.frame.Frame.TheVariants.{Protocol};
 ghost use Rattle.qq_amqp_wire.specs.declared.method.Method.{Method};
 
 /// A law: however bytes are cut into pieces, and whenever a reader is asked, the frames that it hands out
@@ -80,15 +79,15 @@ pub fn what_is_found_stands_there()
         → found_at begun max bytes ≡ Ok None → IsPartial begun max bytes }
 {}
 
-/// A law: what is written of a frame is read again as that frame, whatever follows it.
+/// A law: what is written of a frame is read again as that frame, whatever follows it, and it is a spelling
+/// of the frame.
 pub fn frames_read_back()
-    ensures protocol { (max : ℕ) (rest : List ℕ) →
-        found_at false max (written Protocol ++ rest) ≡ Ok (Some (Protocol, 8)) }
-    ensures frames { (max : ℕ) (frame : Frame) (rest : List ℕ) → frame ≢ Protocol → IsWritable frame
+    ensures again { (max : ℕ) (frame : Frame) (rest : List ℕ) → IsWritable frame
         → length (payload_of frame) ≤ max - 8
-        → found_at true max (written frame ++ rest) ≡ Ok (Some (frame, length (written frame))) }
-    ensures spelled { (max : ℕ) (frame : Frame) → frame ≢ Protocol → IsWritable frame
-        → length (payload_of frame) ≤ max - 8 → SpellsFrame max frame (written frame) }
+        → found_at (begun_at frame) max (written frame ++ rest)
+        ≡ Ok (Some (frame, length (written frame))) }
+    ensures spelled { (max : ℕ) (frame : Frame) → IsWritable frame
+        → length (payload_of frame) ≤ max - 8 → Spells (begun_at frame) max frame (written frame) }
 {}
 
 /// A law: two spellings of one frame differ in what is reserved alone, and in what is written that is zero

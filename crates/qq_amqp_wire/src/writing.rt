@@ -1,8 +1,9 @@
 //! Writing a frame.
-ghost use Rattle.std.specs.Prelude.{◌≡◌, ◌++◌, ◌<◌, ◌^◌, length, OnOk, OnErr, IsOkUnless};
+ghost use Rattle.std.specs.Prelude.{◌≡◌, ◌++◌, ◌≤◌, ◌-◌, ℕ, List, Some, Ok, ◌<◌, ◌^◌, length, OnOk, OnErr, IsOkUnless};
 ghost use Rattle.qq_base.specs.Fronts.{IsFront as IsPrefix};
 ghost use Rattle.qq_fields.specs.Writing.{u16, u32, u64};
-ghost use Rattle.qq_amqp_wire.specs.Writing.{kind_of, channel_of, header_bytes, payload_of, written, HasFields, IsWritable};
+ghost use Rattle.qq_amqp_wire.specs.Frames.{found_at};
+ghost use Rattle.qq_amqp_wire.specs.Writing.{begun_at, kind_of, channel_of, header_bytes, payload_of, written, HasFields, IsWritable};
 
 use crate::frame::Frame;
 use crate::kinds::{BODY, END, HEADER, HEARTBEAT, METHOD, PROTOCOL};
@@ -113,9 +114,8 @@ fn put_frame(out: &mut Vec<u8>, frame: &Frame) -> Result<(), Memory>
     put_u8(out, END)
 }
 
-/// Adds a frame's bytes at the end of `out`. What is reserved is zero or empty. Out of memory, `out` is as
-/// before.
-pub fn write_frame(frame: &Frame, out: &mut Vec<u8>) -> Result<(), Memory>
+// All of a frame's bytes, or none.
+fn put_all(out: &mut Vec<u8>, frame: &Frame) -> Result<(), Memory>
     requires { IsWritable frame.now }
     ensures ok { OnOk result (out.new.items ≡ out.old.items ++ written frame.now) }
     ensures err { OnErr result (out.new.items ≡ out.old.items) }
@@ -127,4 +127,20 @@ pub fn write_frame(frame: &Frame, out: &mut Vec<u8>) -> Result<(), Memory>
         out.truncate(len);
     }
     result
+}
+
+/// Adds a frame's bytes at the end of `out`. What is reserved is zero or empty. Out of memory, `out` is as
+/// before.
+pub fn write_frame(frame: &Frame, out: &mut Vec<u8>) -> Result<(), Memory>
+    requires { IsWritable frame.now }
+    ensures ok { OnOk result (out.new.items ≡ out.old.items ++ written frame.now) }
+
+    // What is written is read again as this frame, whatever follows it.
+    ensures again { (max : ℕ) (rest : List ℕ) → length (payload_of frame.now) ≤ max - 8
+        → found_at (begun_at frame.now) max (written frame.now ++ rest)
+        ≡ Ok (Some (frame.now, length (written frame.now))) }
+    ensures err { OnErr result (out.new.items ≡ out.old.items) }
+    ensures want { IsOkUnless result Memory.Want }
+{
+    put_all(out, frame)
 }
