@@ -4,6 +4,7 @@ use Rattle.std.specs.Prelude.{IfErr, ◌&&◌, nat_le}
 use Rattle.std.specs.Int.{Width, w8, w16, w32, w64}
 use Rattle.std.specs.Str.{IsUtf8, is_utf8}
 use Rattle.std.proofs.lemmas.Str.{is_utf8-from_IsUtf8, IsUtf8-from_is_utf8}
+use Rattle.std.proofs.lemmas.List.{length-append}
 use Rattle.std.proofs.lemmas.Bool.{and_parts, leb-true}
 use Rattle.std.proofs.Math.Nat.{pow-suc}
 use Rattle.std.proofs.Math.Pow.{pow_mono}
@@ -15,7 +16,7 @@ use Rattle.qq_fields.specs.Writing.{u8, u32}
 use Rattle.qq_fields.proofs.Laws.{Takes, Takes-then, Holds, Holds-map, Reads, here, then_ok, where_true, in_turn, u8-reads, u16-reads, u32-reads, u64-reads, bytes-takes, bytes-again}
 use Rattle.qq_amqp_wire.specs.declared.fault.WireFault.{WireFault}
 use Rattle.qq_amqp_wire.specs.declared.fault.WireFault.TheVariants.{BadField}
-use Rattle.qq_amqp_wire.specs.Arguments.{Domain, Octet, Short, Long, LongLong, ShortStr, LongStr, IsOf, short_str, long_str, bytes_of, nothing, Bools, bits_of, byte_of, Argument, Given, Reserved, Bits, Parts, Values, ArePartsInRange, AreInRange, text_of, values_of, parts_of, number_at, bytes_at, short_str_at, long_str_at, value_at, OfValues, at_bits, at_values, made_at}
+use Rattle.qq_amqp_wire.specs.Arguments.{HasLength, HaveLengths, long_len, long_lens, Domain, Octet, Short, Long, LongLong, ShortStr, LongStr, IsOf, short_str, long_str, bytes_of, nothing, Bools, bits_of, byte_of, Argument, Given, Reserved, Bits, Parts, Values, ArePartsInRange, AreInRange, text_of, values_of, parts_of, number_at, bytes_at, short_str_at, long_str_at, value_at, OfValues, at_bits, at_values, made_at, Of}
 
 -- ---- values
 
@@ -247,3 +248,48 @@ parts_fit (Bits n ∷ arguments) values bytes range =
     let limit : 2 ^ n ≤ 2 ^ 8 = pow_mono within in
     let below : byte_of n values.0 < 2 ^ n = byte_limit n values.0 in
     (omega arith, parts_fit arguments values.1 both.1 range)
+
+-- ---- how long it is
+
+-- the most bytes that arguments have beside those of long strings
+abbrev pub most_of : List Argument → ℕ
+most_of [] = 0
+most_of (a ∷ arguments) = 264 + most_of arguments
+
+value_len : (d : Domain) (x : Of d) → HasLength d x → length (bytes_of d x) ≤ long_len d x + 264
+unfolding short_str long_str
+value_len Octet n fits = omega arith
+value_len Short n fits = omega arith
+value_len Long n fits = omega arith
+value_len LongLong n fits = omega arith
+value_len ShortStr bytes fits = omega (arith, length-append (u8 (length bytes)) bytes)
+value_len LongStr bytes fits = omega (arith, length-append (u32 (length bytes)) bytes)
+
+nothing_len : (d : Domain) → length (bytes_of d (nothing d)) ≤ 264
+unfolding short_str long_str
+nothing_len Octet = omega arith
+nothing_len Short = omega arith
+nothing_len Long = omega arith
+nothing_len LongLong = omega arith
+nothing_len ShortStr = omega arith
+nothing_len LongStr = omega arith
+
+pub text_len : (arguments : List Argument) (values : Values arguments) → HaveLengths arguments values
+    → length (text_of arguments (parts_of arguments values)) ≤ long_lens arguments values + most_of arguments
+text_len [] values fits = omega arith
+text_len (Given d ∷ arguments) values fits =
+    omega (
+      arith,
+      length-append (bytes_of d values.0) (text_of arguments (parts_of arguments values.1)),
+      value_len d values.0 fits.0,
+      text_len arguments values.1 fits.1,
+    )
+text_len (Reserved d ∷ arguments) values fits =
+    omega (
+      arith,
+      length-append (bytes_of d (nothing d)) (text_of arguments (parts_of arguments values)),
+      nothing_len d,
+      text_len arguments values fits,
+    )
+text_len (Bits n ∷ arguments) values fits =
+    omega (arith, text_len arguments values.1 fits)

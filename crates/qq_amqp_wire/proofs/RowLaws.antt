@@ -1,6 +1,6 @@
 -- The table of methods: each method is made by the row that its numbers have, and what a row makes is of that row.
 use Rattle.std.proofs.Common.{◌≡◌, ℕ, ◌^◌, ◌<◌, true, cond, eqb, List, [], ◌++◌, Some, refl, sym, subst, lit<}
-use Rattle.std.specs.Prelude.{◌==◌}
+use Rattle.std.specs.Prelude.{◌==◌, nat_le}
 use Rattle.std.specs.List.{AllByRecursion}
 use Rattle.std.proofs.lemmas.Bool.{cond_both, eqb-true}
 use Rattle.qq_base.proofs.Lists.{AllByRecursion-in, find-in}
@@ -10,7 +10,7 @@ use Rattle.qq_amqp_wire.specs.Grammar.{SpellsMethod}
 use Rattle.qq_amqp_wire.specs.Rows.{Row, connection_start, connection_start_ok, connection_tune, connection_tune_ok, connection_open, connection_open_ok, connection_close, connection_close_ok, channel_open, channel_open_ok, channel_close, channel_close_ok, queue_declare, queue_declare_ok, queue_purge, queue_purge_ok, basic_qos, basic_qos_ok, basic_consume, basic_consume_ok, basic_cancel, basic_cancel_ok, basic_publish, basic_deliver, basic_get, basic_get_ok, basic_get_empty, basic_ack, basic_reject, basic_nack, confirm_select, confirm_select_ok, connection_rows, channel_rows, queue_rows, basic_rows, confirm_rows, rows_of, row_at, row_of, values_in}
 use Rattle.qq_amqp_wire.specs.declared.method.Method.{Method}
 use Rattle.qq_amqp_wire.specs.declared.method.Method.TheVariants.{ConnectionStart, ConnectionStartOk, ConnectionTune, ConnectionTuneOk, ConnectionOpen, ConnectionOpenOk, ConnectionClose, ConnectionCloseOk, ChannelOpen, ChannelOpenOk, ChannelClose, ChannelCloseOk, QueueDeclare, QueueDeclareOk, QueuePurge, QueuePurgeOk, BasicQos, BasicQosOk, BasicConsume, BasicConsumeOk, BasicCancel, BasicCancelOk, BasicPublish, BasicDeliver, BasicGet, BasicGetOk, BasicGetEmpty, BasicAck, BasicReject, BasicNack, ConfirmSelect, ConfirmSelectOk}
-use Rattle.qq_amqp_wire.proofs.ArgumentLaws.{have_bytes}
+use Rattle.qq_amqp_wire.proofs.ArgumentLaws.{have_bytes, most_of}
 
 -- a method's row
 pub record HasRow (m : Method) : Type 0 where
@@ -18,40 +18,41 @@ pub record HasRow (m : Method) : Type 0 where
   pub made : at_values (row_of m).arguments (row_of m).make (values_in m) ≡ m
   pub numbers : ((row_of m).class < 2 ^ 16) × ((row_of m).number < 2 ^ 16)
   pub bytes : have_bytes (row_of m).arguments ≡ true
+  pub few : nat_le (most_of (row_of m).arguments) 4096 ≡ true
 
 pub has_row : (m : Method) → HasRow m
-has_row (ConnectionStart major minor properties mechanisms locales) = record { found = refl; made = refl; numbers = (lit< tt, lit< tt); bytes = refl }
-has_row (ConnectionStartOk properties mechanism response locale) = record { found = refl; made = refl; numbers = (lit< tt, lit< tt); bytes = refl }
-has_row (ConnectionTune channel_max frame_max heartbeat) = record { found = refl; made = refl; numbers = (lit< tt, lit< tt); bytes = refl }
-has_row (ConnectionTuneOk channel_max frame_max heartbeat) = record { found = refl; made = refl; numbers = (lit< tt, lit< tt); bytes = refl }
-has_row (ConnectionOpen virtual_host) = record { found = refl; made = refl; numbers = (lit< tt, lit< tt); bytes = refl }
-has_row ConnectionOpenOk = record { found = refl; made = refl; numbers = (lit< tt, lit< tt); bytes = refl }
-has_row (ConnectionClose code text class method) = record { found = refl; made = refl; numbers = (lit< tt, lit< tt); bytes = refl }
-has_row ConnectionCloseOk = record { found = refl; made = refl; numbers = (lit< tt, lit< tt); bytes = refl }
-has_row ChannelOpen = record { found = refl; made = refl; numbers = (lit< tt, lit< tt); bytes = refl }
-has_row ChannelOpenOk = record { found = refl; made = refl; numbers = (lit< tt, lit< tt); bytes = refl }
-has_row (ChannelClose code text class method) = record { found = refl; made = refl; numbers = (lit< tt, lit< tt); bytes = refl }
-has_row ChannelCloseOk = record { found = refl; made = refl; numbers = (lit< tt, lit< tt); bytes = refl }
-has_row (QueueDeclare queue passive durable exclusive auto_delete no_wait arguments) = record { found = refl; made = refl; numbers = (lit< tt, lit< tt); bytes = refl }
-has_row (QueueDeclareOk queue messages consumers) = record { found = refl; made = refl; numbers = (lit< tt, lit< tt); bytes = refl }
-has_row (QueuePurge queue no_wait) = record { found = refl; made = refl; numbers = (lit< tt, lit< tt); bytes = refl }
-has_row (QueuePurgeOk messages) = record { found = refl; made = refl; numbers = (lit< tt, lit< tt); bytes = refl }
-has_row (BasicQos size count global) = record { found = refl; made = refl; numbers = (lit< tt, lit< tt); bytes = refl }
-has_row BasicQosOk = record { found = refl; made = refl; numbers = (lit< tt, lit< tt); bytes = refl }
-has_row (BasicConsume queue tag no_local no_ack exclusive no_wait arguments) = record { found = refl; made = refl; numbers = (lit< tt, lit< tt); bytes = refl }
-has_row (BasicConsumeOk tag) = record { found = refl; made = refl; numbers = (lit< tt, lit< tt); bytes = refl }
-has_row (BasicCancel tag no_wait) = record { found = refl; made = refl; numbers = (lit< tt, lit< tt); bytes = refl }
-has_row (BasicCancelOk tag) = record { found = refl; made = refl; numbers = (lit< tt, lit< tt); bytes = refl }
-has_row (BasicPublish exchange key mandatory immediate) = record { found = refl; made = refl; numbers = (lit< tt, lit< tt); bytes = refl }
-has_row (BasicDeliver consumer tag redelivered exchange key) = record { found = refl; made = refl; numbers = (lit< tt, lit< tt); bytes = refl }
-has_row (BasicGet queue no_ack) = record { found = refl; made = refl; numbers = (lit< tt, lit< tt); bytes = refl }
-has_row (BasicGetOk tag redelivered exchange key messages) = record { found = refl; made = refl; numbers = (lit< tt, lit< tt); bytes = refl }
-has_row BasicGetEmpty = record { found = refl; made = refl; numbers = (lit< tt, lit< tt); bytes = refl }
-has_row (BasicAck tag multiple) = record { found = refl; made = refl; numbers = (lit< tt, lit< tt); bytes = refl }
-has_row (BasicReject tag requeue) = record { found = refl; made = refl; numbers = (lit< tt, lit< tt); bytes = refl }
-has_row (BasicNack tag multiple requeue) = record { found = refl; made = refl; numbers = (lit< tt, lit< tt); bytes = refl }
-has_row (ConfirmSelect no_wait) = record { found = refl; made = refl; numbers = (lit< tt, lit< tt); bytes = refl }
-has_row ConfirmSelectOk = record { found = refl; made = refl; numbers = (lit< tt, lit< tt); bytes = refl }
+has_row (ConnectionStart major minor properties mechanisms locales) = record { found = refl; made = refl; numbers = (lit< tt, lit< tt); bytes = refl; few = refl }
+has_row (ConnectionStartOk properties mechanism response locale) = record { found = refl; made = refl; numbers = (lit< tt, lit< tt); bytes = refl; few = refl }
+has_row (ConnectionTune channel_max frame_max heartbeat) = record { found = refl; made = refl; numbers = (lit< tt, lit< tt); bytes = refl; few = refl }
+has_row (ConnectionTuneOk channel_max frame_max heartbeat) = record { found = refl; made = refl; numbers = (lit< tt, lit< tt); bytes = refl; few = refl }
+has_row (ConnectionOpen virtual_host) = record { found = refl; made = refl; numbers = (lit< tt, lit< tt); bytes = refl; few = refl }
+has_row ConnectionOpenOk = record { found = refl; made = refl; numbers = (lit< tt, lit< tt); bytes = refl; few = refl }
+has_row (ConnectionClose code text class method) = record { found = refl; made = refl; numbers = (lit< tt, lit< tt); bytes = refl; few = refl }
+has_row ConnectionCloseOk = record { found = refl; made = refl; numbers = (lit< tt, lit< tt); bytes = refl; few = refl }
+has_row ChannelOpen = record { found = refl; made = refl; numbers = (lit< tt, lit< tt); bytes = refl; few = refl }
+has_row ChannelOpenOk = record { found = refl; made = refl; numbers = (lit< tt, lit< tt); bytes = refl; few = refl }
+has_row (ChannelClose code text class method) = record { found = refl; made = refl; numbers = (lit< tt, lit< tt); bytes = refl; few = refl }
+has_row ChannelCloseOk = record { found = refl; made = refl; numbers = (lit< tt, lit< tt); bytes = refl; few = refl }
+has_row (QueueDeclare queue passive durable exclusive auto_delete no_wait arguments) = record { found = refl; made = refl; numbers = (lit< tt, lit< tt); bytes = refl; few = refl }
+has_row (QueueDeclareOk queue messages consumers) = record { found = refl; made = refl; numbers = (lit< tt, lit< tt); bytes = refl; few = refl }
+has_row (QueuePurge queue no_wait) = record { found = refl; made = refl; numbers = (lit< tt, lit< tt); bytes = refl; few = refl }
+has_row (QueuePurgeOk messages) = record { found = refl; made = refl; numbers = (lit< tt, lit< tt); bytes = refl; few = refl }
+has_row (BasicQos size count global) = record { found = refl; made = refl; numbers = (lit< tt, lit< tt); bytes = refl; few = refl }
+has_row BasicQosOk = record { found = refl; made = refl; numbers = (lit< tt, lit< tt); bytes = refl; few = refl }
+has_row (BasicConsume queue tag no_local no_ack exclusive no_wait arguments) = record { found = refl; made = refl; numbers = (lit< tt, lit< tt); bytes = refl; few = refl }
+has_row (BasicConsumeOk tag) = record { found = refl; made = refl; numbers = (lit< tt, lit< tt); bytes = refl; few = refl }
+has_row (BasicCancel tag no_wait) = record { found = refl; made = refl; numbers = (lit< tt, lit< tt); bytes = refl; few = refl }
+has_row (BasicCancelOk tag) = record { found = refl; made = refl; numbers = (lit< tt, lit< tt); bytes = refl; few = refl }
+has_row (BasicPublish exchange key mandatory immediate) = record { found = refl; made = refl; numbers = (lit< tt, lit< tt); bytes = refl; few = refl }
+has_row (BasicDeliver consumer tag redelivered exchange key) = record { found = refl; made = refl; numbers = (lit< tt, lit< tt); bytes = refl; few = refl }
+has_row (BasicGet queue no_ack) = record { found = refl; made = refl; numbers = (lit< tt, lit< tt); bytes = refl; few = refl }
+has_row (BasicGetOk tag redelivered exchange key messages) = record { found = refl; made = refl; numbers = (lit< tt, lit< tt); bytes = refl; few = refl }
+has_row BasicGetEmpty = record { found = refl; made = refl; numbers = (lit< tt, lit< tt); bytes = refl; few = refl }
+has_row (BasicAck tag multiple) = record { found = refl; made = refl; numbers = (lit< tt, lit< tt); bytes = refl; few = refl }
+has_row (BasicReject tag requeue) = record { found = refl; made = refl; numbers = (lit< tt, lit< tt); bytes = refl; few = refl }
+has_row (BasicNack tag multiple requeue) = record { found = refl; made = refl; numbers = (lit< tt, lit< tt); bytes = refl; few = refl }
+has_row (ConfirmSelect no_wait) = record { found = refl; made = refl; numbers = (lit< tt, lit< tt); bytes = refl; few = refl }
+has_row ConfirmSelectOk = record { found = refl; made = refl; numbers = (lit< tt, lit< tt); bytes = refl; few = refl }
 
 -- what a row makes has the spelling that it is made of
 pub record Makes (class : ℕ) (r : Row) : Type 0 where

@@ -1,16 +1,17 @@
 -- What is written is a spelling, and spellings of one frame are alike.
-use Rattle.std.proofs.Common.{◌≡◌, ◌≢◌, ℕ, ◌-◌, ◌≤◌, List, [], ◌∷◌, ◌++◌, length, Some, Ok, refl, sym, ap, ◌∙◌, lit<}
+use Rattle.std.proofs.Common.{arith, ◌≡◌, ◌≢◌, ℕ, ◌-◌, ◌≤◌, List, [], ◌∷◌, ◌++◌, length, Some, Ok, refl, sym, ap, ◌∙◌, lit<, ◌<◌, ◌^◌}
 use Rattle.qq_fields.specs.Writing.{u16}
+use Rattle.std.proofs.lemmas.Bool.{leb-true}
 use Rattle.qq_amqp_wire.specs.Alike.{AreAlike, PayloadsAlike, FramesAlike}
 use Rattle.qq_amqp_wire.specs.Arguments.{Argument, Given, Reserved, Bits, Bools, Of, Parts, Values, text_of, values_of, parts_of}
 use Rattle.qq_amqp_wire.specs.Frames.{found_at}
 use Rattle.qq_amqp_wire.specs.Grammar.{Spells, SpellsMethod, SpellsPayload, SpellsFrame}
 use Rattle.qq_amqp_wire.specs.Rows.{row_of, values_in}
-use Rattle.qq_amqp_wire.specs.Writing.{kind_of, channel_of, begun_at, framed, method_bytes, header_bytes, payload_of, written, HasFields, IsWritable}
+use Rattle.qq_amqp_wire.specs.Writing.{kind_of, channel_of, begun_at, framed, method_bytes, header_bytes, payload_of, written, HasFields, MayWrite, IsWritable}
 use Rattle.qq_amqp_wire.specs.declared.frame.Frame.{Frame}
 use Rattle.qq_amqp_wire.specs.declared.frame.Frame.TheVariants.{Protocol, Method as MethodFrame, Header, Body, Heartbeat}
 use Rattle.qq_amqp_wire.specs.declared.method.Method.{Method}
-use Rattle.qq_amqp_wire.proofs.ArgumentLaws.{told_again, parts_fit}
+use Rattle.qq_amqp_wire.proofs.ArgumentLaws.{most_of, text_len, told_again, parts_fit}
 use Rattle.qq_amqp_wire.proofs.ProtocolLaws.{text_again}
 use Rattle.qq_amqp_wire.proofs.RowLaws.{has_row}
 
@@ -115,3 +116,19 @@ frames_alike max f a b s t = record {
   b_is = t.is;
   alike = payloads_alike f s.payload t.payload s.spells t.spells;
 }
+
+-- ---- how long it is
+
+pub payload_short : (f : Frame) → MayWrite f → length (payload_of f) < 2 ^ 32
+unfolding method_bytes header_bytes
+payload_short Protocol may = omega arith
+payload_short (MethodFrame channel m) may =
+    let few : most_of (row_of m).arguments ≤ 4096 = leb-true (most_of (row_of m).arguments) 4096 (has_row m).few in
+    let text = text_len (row_of m).arguments (values_in m) may.room.fit.0 in
+    let all = may.room.fit.1 in
+    omega arith
+payload_short (Header channel class size properties) may =
+    let room : length properties < 2 ^ 31 = may.room in
+    omega arith
+payload_short (Body channel bytes) may = may.room
+payload_short (Heartbeat channel) may = omega arith

@@ -118,6 +118,36 @@ AreInRange (Given d ∷ arguments) values = IsOf d values.0 × AreInRange argume
 AreInRange (Reserved d ∷ arguments) values = AreInRange arguments values
 AreInRange (Bits n ∷ arguments) values = AreInRange arguments values.1
 
+-- a string's length fits its field
+abbrev pub HasLength : (d : Domain) → Of d → Type 0
+HasLength Octet n = Unit {0}
+HasLength Short n = Unit {0}
+HasLength Long n = Unit {0}
+HasLength LongLong n = Unit {0}
+HasLength ShortStr bytes = length bytes < 2 ^ 8
+HasLength LongStr bytes = length bytes < 2 ^ 32
+
+abbrev pub HaveLengths : (arguments : List Argument) → Values arguments → Type 0
+HaveLengths [] values = Unit {0}
+HaveLengths (Given d ∷ arguments) values = HasLength d values.0 × HaveLengths arguments values.1
+HaveLengths (Reserved d ∷ arguments) values = HaveLengths arguments values
+HaveLengths (Bits n ∷ arguments) values = HaveLengths arguments values.1
+
+-- how many bytes long strings have
+abbrev pub long_len : (d : Domain) → Of d → ℕ
+long_len Octet n = 0
+long_len Short n = 0
+long_len Long n = 0
+long_len LongLong n = 0
+long_len ShortStr bytes = 0
+long_len LongStr bytes = length bytes
+
+abbrev pub long_lens : (arguments : List Argument) → Values arguments → ℕ
+long_lens [] values = 0
+long_lens (Given d ∷ arguments) values = long_len d values.0 + long_lens arguments values.1
+long_lens (Reserved d ∷ arguments) values = long_lens arguments values
+long_lens (Bits n ∷ arguments) values = long_lens arguments values.1
+
 -- a spelling
 abbrev pub text_of : (arguments : List Argument) → Parts arguments → List ℕ
 text_of [] parts = []

@@ -1,7 +1,7 @@
 -- The bytes that are written of each frame: what is reserved is zero or empty.
 use Rattle.std.specs.Prelude.{◌<◌, ◌^◌, ℕ, Bool, true, false, List, [], ◌∷◌, ◌++◌, length, ⊤}
 use Rattle.qq_fields.specs.Writing.{u8, u16, u32, u64}
-use Rattle.qq_amqp_wire.specs.Arguments.{AreInRange, text_of, parts_of}
+use Rattle.qq_amqp_wire.specs.Arguments.{HaveLengths, long_lens, AreInRange, text_of, parts_of}
 use Rattle.qq_amqp_wire.specs.Rows.{row_of, values_in}
 use Rattle.qq_amqp_wire.specs.declared.frame.Frame.{Frame}
 use Rattle.qq_amqp_wire.specs.declared.frame.Frame.TheVariants.{Protocol, Method as MethodFrame, Header, Body, Heartbeat}
@@ -42,6 +42,10 @@ method_bytes m =
 pub record HasValues (m : Method) : Type 0 where
   pub range : AreInRange (row_of m).arguments (values_in m)
 
+-- the lengths of its strings fit their fields, and those of the long ones together a frame
+pub record HasLengths (m : Method) : Type 0 where
+  pub fit : HaveLengths (row_of m).arguments (values_in m) × (long_lens (row_of m).arguments (values_in m) < 2 ^ 31)
+
 unfoldable pub header_bytes : ℕ → ℕ → List ℕ → List ℕ
 header_bytes class size properties = u16 class ++ (u16 0 ++ (u64 size ++ properties))
 
@@ -58,6 +62,17 @@ unfoldable pub written : Frame → List ℕ
 written Protocol = kinds.PROTOCOL
 written frame = framed (kind_of frame) (channel_of frame) (payload_of frame)
 
+-- Lengths fit their fields, which is all that a caller has to see to.
+abbrev pub HasRoom : Frame → Type 0
+HasRoom Protocol = ⊤
+HasRoom (MethodFrame channel m) = HasLengths m
+HasRoom (Header channel class size properties) = length properties < 2 ^ 31
+HasRoom (Body channel bytes) = length bytes < 2 ^ 32
+HasRoom (Heartbeat channel) = ⊤
+
+pub record MayWrite (f : Frame) : Type 0 where
+  pub room : HasRoom f
+
 abbrev pub HasFields : Frame → Type 0
 HasFields Protocol = ⊤
 HasFields (MethodFrame channel m) = HasValues m
@@ -65,6 +80,7 @@ HasFields (Header channel class size properties) = (class < 2 ^ 16) × (size < 2
 HasFields (Body channel bytes) = ⊤
 HasFields (Heartbeat channel) = ⊤
 
+-- Its numbers are as wide as their fields and its texts are UTF-8 too, as those of each frame in code are.
 pub record IsWritable (f : Frame) : Type 0 where
   pub channel : channel_of f < 2 ^ 16
   pub fields : HasFields f

@@ -3,7 +3,7 @@ ghost use Rattle.std.specs.Prelude.{◌≡◌, ◌++◌, ◌<◌, ◌^◌, lengt
 ghost use Rattle.qq_base.specs.Fronts.{IsFront as IsPrefix};
 ghost use Rattle.qq_fields.specs.Writing.{u8, u64};
 ghost use Rattle.qq_amqp_wire.specs.Arguments.{short_str, byte_of};
-ghost use Rattle.qq_amqp_wire.specs.Writing.{HasValues, method_bytes};
+ghost use Rattle.qq_amqp_wire.specs.Writing.{HasLengths, method_bytes};
 ghost use Rattle.qq_amqp_wire.specs.declared.method.Method.TheVariants.{BasicQos, BasicQosOk, BasicConsume, BasicConsumeOk, BasicCancel, BasicCancelOk, BasicPublish, BasicDeliver, BasicGet, BasicGetOk, BasicGetEmpty, BasicAck, BasicReject, BasicNack};
 
 use crate::put::{four_bits, one_bit, put_long_str, put_numbers, put_short_str, two_bits};
@@ -56,7 +56,7 @@ pub fn put_consume(
     no_wait: bool,
     arguments: &Bytes,
 ) -> Result<(), Memory>
-    requires { HasValues (BasicConsume queue.now tag.now no_local no_ack
+    requires { HasLengths (BasicConsume queue.now tag.now no_local no_ack
         exclusive no_wait arguments.now) }
     ensures ok { OnOk result (out.new.items ≡ out.old.items
         ++ method_bytes (BasicConsume queue.now tag.now no_local no_ack
@@ -74,7 +74,7 @@ pub fn put_consume(
 
 #[tactic(auto, using(qq_fields::proofs::Appends::prefix_rules), unfolding(crate::specs::Writing::method_bytes))]
 pub fn put_consume_ok(out: &mut Vec<u8>, tag: &Text) -> Result<(), Memory>
-    requires { HasValues (BasicConsumeOk tag.now) }
+    requires { HasLengths (BasicConsumeOk tag.now) }
     ensures ok { OnOk result (out.new.items ≡ out.old.items
         ++ method_bytes (BasicConsumeOk tag.now)) }
     ensures err { OnErr result (IsPrefix out.old.items out.new.items) }
@@ -86,7 +86,7 @@ pub fn put_consume_ok(out: &mut Vec<u8>, tag: &Text) -> Result<(), Memory>
 
 #[tactic(auto, using(qq_fields::proofs::Appends::prefix_rules), unfolding(crate::specs::Writing::method_bytes))]
 pub fn put_cancel(out: &mut Vec<u8>, tag: &Text, no_wait: bool) -> Result<(), Memory>
-    requires { HasValues (BasicCancel tag.now no_wait) }
+    requires { HasLengths (BasicCancel tag.now no_wait) }
     ensures ok { OnOk result (out.new.items ≡ out.old.items
         ++ method_bytes (BasicCancel tag.now no_wait)) }
     ensures err { OnErr result (IsPrefix out.old.items out.new.items) }
@@ -99,7 +99,7 @@ pub fn put_cancel(out: &mut Vec<u8>, tag: &Text, no_wait: bool) -> Result<(), Me
 
 #[tactic(auto, using(qq_fields::proofs::Appends::prefix_rules), unfolding(crate::specs::Writing::method_bytes))]
 pub fn put_cancel_ok(out: &mut Vec<u8>, tag: &Text) -> Result<(), Memory>
-    requires { HasValues (BasicCancelOk tag.now) }
+    requires { HasLengths (BasicCancelOk tag.now) }
     ensures ok { OnOk result (out.new.items ≡ out.old.items
         ++ method_bytes (BasicCancelOk tag.now)) }
     ensures err { OnErr result (IsPrefix out.old.items out.new.items) }
@@ -117,7 +117,7 @@ pub fn put_publish(
     mandatory: bool,
     immediate: bool,
 ) -> Result<(), Memory>
-    requires { HasValues (BasicPublish exchange.now key.now mandatory immediate) }
+    requires { HasLengths (BasicPublish exchange.now key.now mandatory immediate) }
     ensures ok { OnOk result (out.new.items ≡ out.old.items
         ++ method_bytes (BasicPublish exchange.now key.now mandatory immediate)) }
     ensures err { OnErr result (IsPrefix out.old.items out.new.items) }
@@ -159,7 +159,7 @@ pub fn put_deliver(
     exchange: &Text,
     key: &Text,
 ) -> Result<(), Memory>
-    requires { HasValues (BasicDeliver consumer.now tag redelivered exchange.now key.now) }
+    requires { HasLengths (BasicDeliver consumer.now tag redelivered exchange.now key.now) }
     ensures ok { OnOk result (out.new.items ≡ out.old.items
         ++ method_bytes (BasicDeliver consumer.now tag redelivered exchange.now key.now)) }
     ensures err { OnErr result (IsPrefix out.old.items out.new.items) }
@@ -172,7 +172,7 @@ pub fn put_deliver(
 
 #[tactic(auto, using(qq_fields::proofs::Appends::prefix_rules), unfolding(crate::specs::Writing::method_bytes))]
 pub fn put_get(out: &mut Vec<u8>, queue: &Text, no_ack: bool) -> Result<(), Memory>
-    requires { HasValues (BasicGet queue.now no_ack) }
+    requires { HasLengths (BasicGet queue.now no_ack) }
     ensures ok { OnOk result (out.new.items ≡ out.old.items
         ++ method_bytes (BasicGet queue.now no_ack)) }
     ensures err { OnErr result (IsPrefix out.old.items out.new.items) }
@@ -193,7 +193,7 @@ pub fn put_get_ok(
     key: &Text,
     messages: u32,
 ) -> Result<(), Memory>
-    requires { HasValues (BasicGetOk tag redelivered exchange.now key.now messages) }
+    requires { HasLengths (BasicGetOk tag redelivered exchange.now key.now messages) }
     ensures ok { OnOk result (out.new.items ≡ out.old.items
         ++ method_bytes (BasicGetOk tag redelivered exchange.now key.now messages)) }
     ensures err { OnErr result (IsPrefix out.old.items out.new.items) }

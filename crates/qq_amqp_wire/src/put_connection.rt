@@ -1,7 +1,7 @@
 //! Putting the methods of class connection at the end of bytes.
 ghost use Rattle.std.specs.Prelude.{◌≡◌, ◌++◌, OnOk, OnErr, IsOkUnless};
 ghost use Rattle.qq_base.specs.Fronts.{IsFront as IsPrefix};
-ghost use Rattle.qq_amqp_wire.specs.Writing.{HasValues, method_bytes};
+ghost use Rattle.qq_amqp_wire.specs.Writing.{HasLengths, method_bytes};
 ghost use Rattle.qq_amqp_wire.specs.declared.method.Method.TheVariants.{ConnectionStart, ConnectionStartOk, ConnectionTune, ConnectionTuneOk, ConnectionOpen, ConnectionOpenOk, ConnectionClose, ConnectionCloseOk};
 
 use crate::put::{put_long_str, put_numbers, put_short_str};
@@ -16,7 +16,7 @@ pub fn put_start(
     mechanisms: &Bytes,
     locales: &Bytes,
 ) -> Result<(), Memory>
-    requires { HasValues (ConnectionStart major minor properties.now mechanisms.now locales.now) }
+    requires { HasLengths (ConnectionStart major minor properties.now mechanisms.now locales.now) }
     ensures ok { OnOk result (out.new.items ≡ out.old.items
         ++ method_bytes (ConnectionStart major minor properties.now mechanisms.now locales.now)) }
     ensures err { OnErr result (IsPrefix out.old.items out.new.items) }
@@ -38,7 +38,7 @@ pub fn put_start_ok(
     response: &Bytes,
     locale: &Text,
 ) -> Result<(), Memory>
-    requires { HasValues (ConnectionStartOk properties.now mechanism.now response.now locale.now) }
+    requires { HasLengths (ConnectionStartOk properties.now mechanism.now response.now locale.now) }
     ensures ok { OnOk result (out.new.items ≡ out.old.items
         ++ method_bytes (ConnectionStartOk properties.now mechanism.now response.now locale.now)) }
     ensures err { OnErr result (IsPrefix out.old.items out.new.items) }
@@ -89,7 +89,7 @@ pub fn put_tune_ok(
 
 #[tactic(auto, using(qq_fields::proofs::Appends::prefix_rules), unfolding(crate::specs::Writing::method_bytes, crate::specs::Arguments::short_str))]
 pub fn put_open(out: &mut Vec<u8>, virtual_host: &Text) -> Result<(), Memory>
-    requires { HasValues (ConnectionOpen virtual_host.now) }
+    requires { HasLengths (ConnectionOpen virtual_host.now) }
     ensures ok { OnOk result (out.new.items ≡ out.old.items
         ++ method_bytes (ConnectionOpen virtual_host.now)) }
     ensures err { OnErr result (IsPrefix out.old.items out.new.items) }
@@ -119,7 +119,7 @@ pub fn put_close(
     class: u16,
     method: u16,
 ) -> Result<(), Memory>
-    requires { HasValues (ConnectionClose code text.now class method) }
+    requires { HasLengths (ConnectionClose code text.now class method) }
     ensures ok { OnOk result (out.new.items ≡ out.old.items
         ++ method_bytes (ConnectionClose code text.now class method)) }
     ensures err { OnErr result (IsPrefix out.old.items out.new.items) }

@@ -1,7 +1,7 @@
 //! Putting a method at the end of bytes.
 ghost use Rattle.std.specs.Prelude.{◌≡◌, ◌++◌, OnOk, OnErr, IsOkUnless};
 ghost use Rattle.qq_base.specs.Fronts.{IsFront as IsPrefix};
-ghost use Rattle.qq_amqp_wire.specs.Writing.{HasValues, method_bytes};
+ghost use Rattle.qq_amqp_wire.specs.Writing.{HasLengths, method_bytes};
 
 use crate::method::Method;
 use crate::{put_basic, put_connection, put_queue};
@@ -9,7 +9,7 @@ use qq_base::Memory;
 
 /// The numbers of a method and its arguments. What is reserved is zero or empty.
 pub fn put_method(out: &mut Vec<u8>, method: &Method) -> Result<(), Memory>
-    requires { HasValues method.now }
+    requires { HasLengths method.now }
     ensures ok { OnOk result (out.new.items ≡ out.old.items ++ method_bytes method.now) }
     ensures err { OnErr result (IsPrefix out.old.items out.new.items) }
     ensures want { IsOkUnless result Memory.Want }

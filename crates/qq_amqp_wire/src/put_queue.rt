@@ -1,7 +1,7 @@
 //! Putting the methods of classes channel, queue and confirm at the end of bytes.
 ghost use Rattle.std.specs.Prelude.{◌≡◌, ◌++◌, OnOk, OnErr, IsOkUnless};
 ghost use Rattle.qq_base.specs.Fronts.{IsFront as IsPrefix};
-ghost use Rattle.qq_amqp_wire.specs.Writing.{HasValues, method_bytes};
+ghost use Rattle.qq_amqp_wire.specs.Writing.{HasLengths, method_bytes};
 ghost use Rattle.qq_amqp_wire.specs.declared.method.Method.TheVariants.{ChannelOpen, ChannelOpenOk, ChannelClose, ChannelCloseOk, QueueDeclare, QueueDeclareOk, QueuePurge, QueuePurgeOk, ConfirmSelect, ConfirmSelectOk};
 
 use crate::put::{five_bits, one_bit, put_long_str, put_numbers, put_short_str};
@@ -35,7 +35,7 @@ pub fn put_channel_close(
     class: u16,
     method: u16,
 ) -> Result<(), Memory>
-    requires { HasValues (ChannelClose code text.now class method) }
+    requires { HasLengths (ChannelClose code text.now class method) }
     ensures ok { OnOk result (out.new.items ≡ out.old.items
         ++ method_bytes (ChannelClose code text.now class method)) }
     ensures err { OnErr result (IsPrefix out.old.items out.new.items) }
@@ -68,7 +68,7 @@ pub fn put_queue_declare(
     no_wait: bool,
     arguments: &Bytes,
 ) -> Result<(), Memory>
-    requires { HasValues (QueueDeclare queue.now passive durable exclusive
+    requires { HasLengths (QueueDeclare queue.now passive durable exclusive
         auto_delete no_wait arguments.now) }
     ensures ok { OnOk result (out.new.items ≡ out.old.items
         ++ method_bytes (QueueDeclare queue.now passive durable exclusive
@@ -93,7 +93,7 @@ pub fn put_queue_declare_ok(
     messages: u32,
     consumers: u32,
 ) -> Result<(), Memory>
-    requires { HasValues (QueueDeclareOk queue.now messages consumers) }
+    requires { HasLengths (QueueDeclareOk queue.now messages consumers) }
     ensures ok { OnOk result (out.new.items ≡ out.old.items
         ++ method_bytes (QueueDeclareOk queue.now messages consumers)) }
     ensures err { OnErr result (IsPrefix out.old.items out.new.items) }
@@ -107,7 +107,7 @@ pub fn put_queue_declare_ok(
 
 #[tactic(auto, using(qq_fields::proofs::Appends::prefix_rules), unfolding(crate::specs::Writing::method_bytes))]
 pub fn put_queue_purge(out: &mut Vec<u8>, queue: &Text, no_wait: bool) -> Result<(), Memory>
-    requires { HasValues (QueuePurge queue.now no_wait) }
+    requires { HasLengths (QueuePurge queue.now no_wait) }
     ensures ok { OnOk result (out.new.items ≡ out.old.items
         ++ method_bytes (QueuePurge queue.now no_wait)) }
     ensures err { OnErr result (IsPrefix out.old.items out.new.items) }

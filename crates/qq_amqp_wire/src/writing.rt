@@ -3,7 +3,7 @@ ghost use Rattle.std.specs.Prelude.{◌≡◌, ◌++◌, ◌≤◌, ◌-◌, ℕ
 ghost use Rattle.qq_base.specs.Fronts.{IsFront as IsPrefix};
 ghost use Rattle.qq_fields.specs.Writing.{u16, u32, u64};
 ghost use Rattle.qq_amqp_wire.specs.Frames.{found_at};
-ghost use Rattle.qq_amqp_wire.specs.Writing.{begun_at, kind_of, channel_of, header_bytes, payload_of, written, HasFields, IsWritable};
+ghost use Rattle.qq_amqp_wire.specs.Writing.{begun_at, kind_of, channel_of, header_bytes, payload_of, written, HasRoom, MayWrite, IsWritable};
 
 use crate::frame::Frame;
 use crate::kinds::{BODY, END, HEADER, HEARTBEAT, METHOD, PROTOCOL};
@@ -61,7 +61,7 @@ fn put_header(out: &mut Vec<u8>, class: u16, size: u64, properties: &[u8]) -> Re
 
 #[tactic(auto, using(qq_fields::proofs::Appends::prefix_rules))]
 fn put_payload(out: &mut Vec<u8>, frame: &Frame) -> Result<(), Memory>
-    requires { HasFields frame.now }
+    requires { HasRoom frame.now }
     ensures ok { OnOk result (out.new.items ≡ out.old.items ++ payload_of frame.now) }
     ensures err { OnErr result (IsPrefix out.old.items out.new.items) }
     ensures want { IsOkUnless result Memory.Want }
@@ -83,7 +83,7 @@ fn put_payload(out: &mut Vec<u8>, frame: &Frame) -> Result<(), Memory>
 /// A frame's size in four bytes, and its payload.
 #[tactic(auto, using(qq_fields::proofs::Appends::prefix_rules))]
 fn put_sized(out: &mut Vec<u8>, frame: &Frame) -> Result<(), Memory>
-    requires { IsWritable frame.now }
+    requires { MayWrite frame.now }
     ensures ok { OnOk result (out.new.items ≡ out.old.items
         ++ (u32 (length (payload_of frame.now)) ++ payload_of frame.now)) }
     ensures err { OnErr result (IsPrefix out.old.items out.new.items) }
@@ -100,7 +100,7 @@ fn put_sized(out: &mut Vec<u8>, frame: &Frame) -> Result<(), Memory>
 
 #[tactic(auto, using(qq_fields::proofs::Appends::prefix_rules), unfolding(crate::specs::Writing::written, crate::specs::Writing::framed))]
 fn put_frame(out: &mut Vec<u8>, frame: &Frame) -> Result<(), Memory>
-    requires { IsWritable frame.now }
+    requires { MayWrite frame.now }
     ensures ok { OnOk result (out.new.items ≡ out.old.items ++ written frame.now) }
     ensures err { OnErr result (IsPrefix out.old.items out.new.items) }
     ensures want { IsOkUnless result Memory.Want }
@@ -116,7 +116,7 @@ fn put_frame(out: &mut Vec<u8>, frame: &Frame) -> Result<(), Memory>
 
 // All of a frame's bytes, or none.
 fn put_all(out: &mut Vec<u8>, frame: &Frame) -> Result<(), Memory>
-    requires { IsWritable frame.now }
+    requires { MayWrite frame.now }
     ensures ok { OnOk result (out.new.items ≡ out.old.items ++ written frame.now) }
     ensures err { OnErr result (out.new.items ≡ out.old.items) }
     ensures want { IsOkUnless result Memory.Want }
@@ -132,11 +132,12 @@ fn put_all(out: &mut Vec<u8>, frame: &Frame) -> Result<(), Memory>
 /// Adds a frame's bytes at the end of `out`. What is reserved is zero or empty. Out of memory, `out` is as
 /// before.
 pub fn write_frame(frame: &Frame, out: &mut Vec<u8>) -> Result<(), Memory>
-    requires { IsWritable frame.now }
+    requires { MayWrite frame.now }
     ensures ok { OnOk result (out.new.items ≡ out.old.items ++ written frame.now) }
 
     // What is written is read again as this frame, whatever follows it.
-    ensures again { (max : ℕ) (rest : List ℕ) → length (payload_of frame.now) ≤ max - 8
+    ensures again { (max : ℕ) (rest : List ℕ) → IsWritable frame.now
+        → length (payload_of frame.now) ≤ max - 8
         → found_at (begun_at frame.now) max (written frame.now ++ rest)
         ≡ Ok (Some (frame.now, length (written frame.now))) }
     ensures err { OnErr result (out.new.items ≡ out.old.items) }
