@@ -1,5 +1,5 @@
 -- However the bytes come, the frames that are handed out are those of the grammar.
-use Rattle.std.proofs.Common.{◌≡◌, ℕ, Bool, true, List, [], ◌∷◌, ◌++◌, length, drop, Option, Some, None, Result, Ok, Err, refl, sym, ap, subst, ◌∙◌, append_assoc, append-nil}
+use Rattle.std.proofs.Common.{◌≡◌, ◌≢◌, ℕ, Bool, true, List, [], ◌∷◌, ◌++◌, length, drop, Option, Some, None, Result, Ok, Err, refl, sym, ap, subst, ◌∙◌, append_assoc, append-nil}
 use Rattle.std.proofs.lemmas.List.{take_at, drop_at}
 use Rattle.qq_base.proofs.Fronts.{front-refl, front-nil, longer_front, front-same}
 use Rattle.qq_base.proofs.Numbers.{AreBytes-take}
@@ -9,8 +9,10 @@ use Rattle.qq_fields.proofs.Laws.{AreBytes-drop}
 use Rattle.qq_amqp_wire.specs.Calls.{Call, Feeds, Asks, bytes_of, left_of, handed, frames_of, Splits, begun_by, IsLeftBy, AreSplit, IsDrained}
 use Rattle.qq_amqp_wire.specs.Frames.{Found, found_at}
 use Rattle.qq_amqp_wire.specs.Grammar.{IsRead}
+use Rattle.qq_amqp_wire.specs.Handing.{StopsAt}
 use Rattle.qq_amqp_wire.specs.Input.{Input, Step, fed_by, fed, next_by, step_by, next}
 use Rattle.qq_amqp_wire.specs.declared.fault.WireFault.{WireFault}
+use Rattle.qq_amqp_wire.specs.declared.fault.WireFault.TheVariants.{BadProtocol, BadType, TooLong, BadEnd, BadMethod, BadField, Memory}
 use Rattle.qq_amqp_wire.specs.declared.frame.Frame.{Frame}
 use Rattle.qq_amqp_wire.proofs.MoreLaws.{read_more, fault_more}
 use Rattle.qq_amqp_wire.proofs.ProtocolLaws.{found_again, fault_again}
@@ -296,3 +298,24 @@ cut_alike a b input fits sound bytes first second =
           (splits_bytes input.begun input.max (input.unread ++ bytes_of b) (frames_of b input) t.rest fits' t.split)
           t.left),
     )
+
+-- ---- after a fault
+
+stopped : (old new : Input) (e : WireFault) → e ≢ Memory → StopsAt old new e → new.fault ≡ Some e
+stopped old new BadProtocol other s = s.later
+stopped old new BadType other s = s.later
+stopped old new TooLong other s = s.later
+stopped old new BadEnd other s = s.later
+stopped old new (BadMethod class number) other s = s.later
+stopped old new BadField other s = s.later
+stopped old new Memory other s = absurd (other refl)
+
+pub from_then_on : (old new : Input) (e : WireFault) (max : ℕ) (calls : List Call) → e ≢ Memory → StopsAt old new e
+    → (frames_of calls (record new { max = max }) ≡ [])
+    × ((next (left_of calls (record new { max = max }))).0 ≡ Err e)
+unfolding next
+from_then_on old new e max calls other s =
+    let input : Input = record new { max = max } in
+    let is : input.fault ≡ Some e = stopped old new e other s in
+    let stay = stays calls input e is in
+    (stay.frames, ap (λ (i : Input). (next i).0) stay.left ∙ ap (λ (o : Option WireFault). (next_by o input).0) is)

@@ -1,5 +1,5 @@
 //! Laws of frames and their bytes.
-ghost use Rattle.std.specs.Prelude.{◌≡◌, ◌≤◌, ◌-◌, ◌++◌, ℕ, List, Bool, true, false, Some, None, Ok, Err, drop, length};
+ghost use Rattle.std.specs.Prelude.{◌≡◌, ◌≢◌, ◌≤◌, ◌-◌, ◌++◌, ℕ, List, [], Bool, true, false, Some, None, Ok, Err, drop, length};
 ghost use Rattle.qq_base.specs.Fields.{AreBytes};
 ghost use Rattle.qq_base.specs.Fronts.{IsFront};
 ghost use Rattle.qq_fields.specs.Writing.{u16};
@@ -8,10 +8,12 @@ ghost use Rattle.qq_amqp_wire.specs.Arguments.{text_of, parts_of, values_of};
 ghost use Rattle.qq_amqp_wire.specs.Calls.{Call, bytes_of, left_of, frames_of, Splits, AreSplit, IsDrained};
 ghost use Rattle.qq_amqp_wire.specs.Frames.{found_at};
 ghost use Rattle.qq_amqp_wire.specs.Grammar.{SpellsMethod, SpellsFrame, Spells, HasFault, IsRead, IsPartial};
+ghost use Rattle.qq_amqp_wire.specs.Handing.{StopsAt};
 ghost use Rattle.qq_amqp_wire.specs.Input.{Input, next};
 ghost use Rattle.qq_amqp_wire.specs.Rows.{row_of};
 ghost use Rattle.qq_amqp_wire.specs.Writing.{begun_at, payload_of, method_bytes, written, IsWritable};
 ghost use Rattle.qq_amqp_wire.specs.declared.fault.WireFault.{WireFault};
+ghost use Rattle.qq_amqp_wire.specs.declared.fault.WireFault.TheVariants.{Memory};
 ghost use Rattle.qq_amqp_wire.specs.declared.frame.Frame.{Frame};
 ghost use Rattle.qq_amqp_wire.specs.declared.method.Method.{Method};
 
@@ -44,6 +46,13 @@ pub fn frames_are_one_list()
         → AreBytes (input.unread ++ bytes_of late) → input.fault ≡ None
         → IsFront (bytes_of early) (bytes_of late) → IsDrained late input
         → IsFront (frames_of early input) (frames_of late input) }
+{}
+
+/// A law: after a fault other than `Memory` a reader answers it from then on, whatever is fed and set.
+pub fn a_fault_is_answered_from_then_on()
+    ensures { (old new : Input) (fault : WireFault) (max : ℕ) (calls : List Call) → fault ≢ Memory
+        → StopsAt old new fault → (frames_of calls (record new { max = max }) ≡ [])
+        × ((next (left_of calls (record new { max = max }))).0 ≡ Err fault) }
 {}
 
 /// A law: what stands at the front of bytes is one frame or one fault, and more bytes don't change it.

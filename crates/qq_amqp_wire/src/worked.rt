@@ -2,7 +2,9 @@
 //!
 //! The bytes are those that Pika writes, a client by other hands.
 ghost use Rattle.std.specs.Prelude.{◌≡◌, ◌++◌, [], ◌∷◌, true, false, Some, None, Ok, Err, codes};
+ghost use Rattle.qq_amqp_wire.specs.Calls.{Feeds, Asks, frames_of, left_of};
 ghost use Rattle.qq_amqp_wire.specs.Frames.{found_at, method_in};
+ghost use Rattle.qq_amqp_wire.specs.Input.{fresh};
 ghost use Rattle.qq_amqp_wire.specs.Writing.{method_bytes};
 ghost use Rattle.qq_amqp_wire.specs.declared.fault.WireFault.TheVariants.{BadProtocol, BadType, TooLong, BadEnd, BadMethod, BadField};
 ghost use Rattle.qq_amqp_wire.specs.declared.frame.Frame.TheVariants.{Protocol, Method as MethodFrame, Header, Body, Heartbeat};
@@ -145,4 +147,15 @@ pub fn worked_faults_are_found()
         ≡ Err BadField }
     // Below 8 bytes none but an empty payload is allowed.
     ensures small { found_at true 7 (3 ∷ 0 ∷ 0 ∷ 0 ∷ 0 ∷ 0 ∷ 1 ∷ 0 ∷ 206 ∷ []) ≡ Err TooLong }
+{}
+
+/// A law: what a reader hands out of bytes that are cut within its frames, where frames have at most 16 bytes.
+pub fn worked_calls_hand_out_frames()
+    ensures frames { frames_of (Feeds (codes "AM") ∷ Asks ∷ Feeds (codes "QP" ++ 0 ∷ 0 ∷ 9 ∷ 1 ∷ 8 ∷ 0 ∷ [])
+        ∷ Asks ∷ Asks ∷ Feeds (0 ∷ 0 ∷ 0 ∷ 0 ∷ 0 ∷ 206 ∷ 8 ∷ []) ∷ Asks ∷ Asks ∷ []) (fresh 16)
+        ≡ Protocol ∷ Heartbeat 0 ∷ [] }
+    ensures left { left_of (Feeds (codes "AMQP" ++ 0 ∷ 0 ∷ 9 ∷ 1 ∷ 8 ∷ 0 ∷ []) ∷ Asks ∷ Asks ∷ []) (fresh 16)
+        ≡ record { begun = true; max = 16; unread = 8 ∷ 0 ∷ []; fault = None } }
+    ensures fault { left_of (Feeds (0 ∷ []) ∷ Asks ∷ Feeds (1 ∷ []) ∷ []) (fresh 16)
+        ≡ record { begun = false; max = 16; unread = []; fault = Some BadProtocol } }
 {}
