@@ -19,7 +19,8 @@ use Rattle.qq_script_lines.specs.declared.line.ScriptLine.TheVariants.{Client}
 use Rattle.qq_session.specs.Clients.{may_hand}
 use Rattle.qq_session.specs.ExactlyOne.{ExactlyOne}
 use Rattle.qq_session.specs.Printed.{IsConfirmedPublish}
-use Rattle.qq_session.specs.Shown.{Shown, Answered, Attached, Delivered, Dropped, HasEnded, IsBusy, NoLeader, NotTaken, Taken, WindowFull}
+use Rattle.qq_session.specs.declared.shown.Shown.{Shown}
+use Rattle.qq_session.specs.declared.shown.Shown.TheVariants.{Answered, Attached, Delivered, Dropped, HasEnded, IsBusy, NoLeader, NotTaken, Taken, WindowFull}
 use Rattle.qq_taker.specs.declared.handed.Handed.{Handed}
 use Rattle.qq_taker.specs.declared.heard.Heard.{Heard}
 use Rattle.qq_taker.specs.declared.heard.Refusal.TheVariants as refusals

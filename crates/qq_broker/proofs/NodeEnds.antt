@@ -23,7 +23,7 @@ use Rattle.qq_node_log.specs.Log.{disk_in}
 use Rattle.qq_node_log.specs.declared.node_log.NodeLog.{NodeLog}
 use Rattle.qq_nodes.specs.Ends.{HasLog}
 use Rattle.qq_nodes.specs.Nodes.{InFile, InNumbers, InQueue, NumberAt, node_at, seen_in, seen_log}
-use Rattle.qq_nodes.proofs.AskEnds.{refused-ends}
+use Rattle.qq_nodes.proofs.EventEnds.{refused-ends}
 use Rattle.qq_nodes.proofs.Walks.{in-range}
 use Rattle.qq_broker.specs.Lives.{Became, Giving}
 use Rattle.qq_broker.specs.Nodes.{HasNumber}

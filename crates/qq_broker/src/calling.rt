@@ -17,10 +17,9 @@ ghost use Rattle.qq_broker.specs.Nodes.{Meets};
 use crate::broker::{Broker, Pumped, give_back, lend, pump_outcome};
 use qq_base::{Memory, QueueId, SessionId};
 use qq_cluster::who_listens_hears_what_is_told;
-use qq_cluster_queue::Told;
 use qq_disk::NodeDisk;
 use qq_entry::{AuditRow, Unstamped};
-use qq_nodes::Nodes;
+use qq_nodes::{Nodes, Told};
 use qq_taker::{Desk, Handed, Heard, Refusal, Taker, What};
 use std::alloc::Global;
 

@@ -17,7 +17,9 @@ use Rattle.qq_entry.specs.declared.command.Command.{Command}
 use Rattle.qq_entry.specs.declared.queue.QueueArgs.{QueueArgs}
 use Rattle.qq_session.specs.Clients.{Clients, may_hand, printed}
 use Rattle.qq_raft_model.specs.Group.{Group}
-use Rattle.qq_session.specs.Shown.{Shown, Answered, WindowFull, is_delivered_to, said_of}
+use Rattle.qq_session.specs.declared.shown.Shown.{Shown}
+use Rattle.qq_session.specs.declared.shown.Shown.TheVariants.{Answered, WindowFull}
+use Rattle.qq_session.specs.Shown.{is_delivered_to, said_of}
 use Rattle.qq_taker.specs.Seats.{taker_of}
 use Rattle.qq_taker.specs.declared.handed.Handed.{Handed}
 use Rattle.qq_taker.specs.declared.seats.Seat.{Seat}

@@ -19,7 +19,7 @@ use Rattle.qq_model.specs.State.{empty_queue}
 use Rattle.qq_raft_model.specs.Group.{Group}
 use Rattle.qq_session.specs.Answered.{IsAnswered}
 use Rattle.qq_session.specs.Printed.{IsAudited, IsConfirmedOnce}
-use Rattle.qq_session.specs.Shown.{Shown}
+use Rattle.qq_session.specs.declared.shown.Shown.{Shown}
 use Rattle.qq_session.proofs.AuditRows.{filter_map-append}
 use Rattle.qq_cluster.specs.Cluster.{Setup, Cluster, ClusterEvent, MutesEach, EndsEach, Sets, Alike, At, NodeWrites, NodeSyncs, Fails, Crashes, FindsEach, Shows, SaysDown, SaysNoSuch, SaysUnroutable, SaysBusy, SaysEnded, Printed, Of, Stopped, IsDown, NoSuch, Unroutable, Busy, Ended, State, new_cluster, cluster_happens, cluster_after, part_of, parts_of, members_in_order, state_at, prints, all_prints}
 use Rattle.qq_cluster.specs.ClusterLaws.{HasGroups, HasItsQueues, IsTrueOf, PrintsInOrder, PrintsOfItsQueues, PrintsWhatIsTrue, shown_at, shown_of}

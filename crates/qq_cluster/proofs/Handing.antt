@@ -6,7 +6,8 @@ use Rattle.qq_base.proofs.Lists.{AllByRecursion-append}
 use Rattle.qq_base.specs.declared.ids.ConsumerId.{ConsumerId}
 use Rattle.qq_entry.specs.declared.answer.Delivery.{Delivery}
 use Rattle.qq_entry.specs.declared.audit.AuditRow.{AuditRow}
-use Rattle.qq_session.specs.Shown.{Shown, Answered, Attached, Delivered, Dropped, IsBusy, Taken}
+use Rattle.qq_session.specs.declared.shown.Shown.{Shown}
+use Rattle.qq_session.specs.declared.shown.Shown.TheVariants.{Answered, Attached, Delivered, Dropped, IsBusy, Taken}
 use Rattle.qq_session.proofs.AuditRows.{filter_map-append}
 use Rattle.qq_taker.specs.Seats.{leaving, taker_of}
 use Rattle.qq_taker.specs.declared.handed.Handed.{Handed}

@@ -24,7 +24,8 @@ use Rattle.qq_raft_model.specs.Group.{Event as Move, group_after}
 use Rattle.qq_raft_model.specs.Group.Event.{Submit}
 use Rattle.qq_session.specs.Publishing.{Numbers, next_command, hand, open_commands}
 use Rattle.qq_session.specs.Clients.{Client, Clients, is_used, may_hand}
-use Rattle.qq_session.specs.Shown.{NoLeader, WindowFull, effects_of_term, said_of}
+use Rattle.qq_session.specs.declared.shown.Shown.TheVariants.{NoLeader, WindowFull}
+use Rattle.qq_session.specs.Shown.{effects_of_term, said_of}
 use Rattle.qq_taker.specs.declared.handed.Handed.{Handed}
 use Rattle.qq_cluster.specs.Laws.{IsOwnTo, LeaderIsTold, NobodyIsTold, TellsOfEnd}
 use Rattle.qq_cluster.specs.Queue.{Queue, Submits, Resends, Downs, acts, happens, is_shown, leader, moves, offered, own_effects, own_rows, said, submits, known}

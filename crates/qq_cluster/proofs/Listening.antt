@@ -2,7 +2,7 @@
 use Rattle.std.proofs.Common.{◌≡◌, List, [], ◌∷◌, ◌++◌, Option, Some, None, refl, sym, ap, ◌∙◌, append_assoc, append-nil}
 use Rattle.std.specs.List.{cons_option}
 use Rattle.std.specs.Option.{option_map}
-use Rattle.qq_session.specs.Shown.{Answered, Delivered, NoLeader, WindowFull, HasEnded, NotTaken, Attached, IsBusy, Taken, Dropped}
+use Rattle.qq_session.specs.declared.shown.Shown.TheVariants.{Answered, Delivered, NoLeader, WindowFull, HasEnded, NotTaken, Attached, IsBusy, Taken, Dropped}
 use Rattle.qq_taker.specs.Takers.{Gone, Held, Takers, change_held, hand, hear_on, look}
 use Rattle.qq_taker.specs.declared.heard.Heard.{Heard}
 use Rattle.qq_cluster.specs.Cluster.{Cluster, ClusterEvent, Setup, Printed, Of, Stopped, IsDown, NoSuch, Unroutable, Busy, Ended, State, all_prints}

@@ -31,7 +31,8 @@ use Rattle.qq_model.proofs.Soundness.{Contains-in, in_contains}
 use Rattle.qq_raft_model.specs.Group.{Group}
 use Rattle.qq_raft_model.specs.State.{Server}
 use Rattle.qq_session.specs.Clients.{Clients}
-use Rattle.qq_session.specs.Shown.{Shown, Answered, Delivered, NoLeader, WindowFull, HasEnded, NotTaken, Attached, IsBusy, Taken, Dropped}
+use Rattle.qq_session.specs.declared.shown.Shown.{Shown}
+use Rattle.qq_session.specs.declared.shown.Shown.TheVariants.{Answered, Delivered, NoLeader, WindowFull, HasEnded, NotTaken, Attached, IsBusy, Taken, Dropped}
 use Rattle.qq_taker.specs.declared.taker.Verdict.{Verdict}
 use Rattle.qq_cluster.specs.Delivering.{applied_by, fetch, fetch_by, is_consumer_of}
 use Rattle.qq_cluster.specs.Laws.{IsBegun, IsMade, deliveries_shown, deliveries_waiting, delivery_shown, queue_after}

@@ -2,7 +2,7 @@
 use Rattle.std.proofs.Common.{◌≡◌, ℕ, List, [], ◌∷◌, ◌++◌, map, refl, sym, ap, ◌∙◌, append_assoc, append-nil}
 use Rattle.std.specs.List.{flat_map}
 use Rattle.std.proofs.lemmas.Grind.{flat_map-append}
-use Rattle.qq_session.specs.Shown.{Shown}
+use Rattle.qq_session.specs.declared.shown.Shown.{Shown}
 use Rattle.qq_taker.specs.Takers.{Takers}
 use Rattle.qq_cluster.specs.Cluster.{Cluster, ClusterEvent, At, Of, Printed, Setup, all_prints, cluster_after, cluster_happens, prints}
 use Rattle.qq_cluster.specs.Outcome.{sees, sees_all, sees_printed, sees_prints, takers_after}

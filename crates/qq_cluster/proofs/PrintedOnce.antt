@@ -11,7 +11,9 @@ use Rattle.qq_raft_model.specs.Group.{Group}
 use Rattle.qq_session.specs.Publishing.{Numbers}
 use Rattle.qq_session.specs.Printed.{closed_number}
 use Rattle.qq_session.specs.Clients.{Clients, hear_all, may_hand, printed}
-use Rattle.qq_session.specs.Shown.{Shown, WindowFull, said_of}
+use Rattle.qq_session.specs.declared.shown.Shown.{Shown}
+use Rattle.qq_session.specs.declared.shown.Shown.TheVariants.{WindowFull}
+use Rattle.qq_session.specs.Shown.{said_of}
 use Rattle.qq_taker.specs.Seats.{taker_of}
 use Rattle.qq_taker.specs.declared.handed.Handed.{Handed}
 use Rattle.qq_session.proofs.PrintedOnce.{IsClosed, OpenBelow, closed-deeds, below-deeds, numbers_in, printed_numbers, Distinct, pairs-distinct, printed-distinct, printed-closed, never-printed, offered-none, distinct-append}

@@ -18,7 +18,7 @@ use Rattle.qq_model.specs.Gate.{IsNumbered}
 use Rattle.qq_model.specs.State.{empty_queue}
 use Rattle.qq_raft_model.specs.Group.{Group}
 use Rattle.qq_session.specs.Clients.{printed}
-use Rattle.qq_session.specs.Shown.{Shown}
+use Rattle.qq_session.specs.declared.shown.Shown.{Shown}
 use Rattle.qq_session.proofs.AuditRows.{filter_map-append}
 use Rattle.qq_taker.specs.Seats.{taker_of}
 use Rattle.qq_taker.specs.declared.seats.Seat.{Seat}

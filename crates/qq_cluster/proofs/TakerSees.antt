@@ -12,7 +12,9 @@ use Rattle.qq_entry.specs.declared.audit.AuditRow.{AuditRow}
 use Rattle.qq_entry.specs.declared.command.Command.{Command}
 use Rattle.qq_model.proofs.OneConsumer.{same_consumer-refl, same_consumer-true}
 use Rattle.qq_session.specs.Clients.{may_hand, printed}
-use Rattle.qq_session.specs.Shown.{Shown, Answered, WindowFull, said_of}
+use Rattle.qq_session.specs.declared.shown.Shown.{Shown}
+use Rattle.qq_session.specs.declared.shown.Shown.TheVariants.{Answered, WindowFull}
+use Rattle.qq_session.specs.Shown.{said_of}
 use Rattle.qq_session.proofs.AuditRows.{filter_map-append}
 use Rattle.qq_taker.specs.Seats.{taker_of}
 use Rattle.qq_taker.specs.Seen.{seen_of}

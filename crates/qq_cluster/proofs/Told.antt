@@ -19,7 +19,8 @@ use Rattle.qq_raft_model.specs.Server.{is_ready}
 use Rattle.qq_raft_model.specs.State.{Server}
 use Rattle.qq_session.specs.Printed.{IsAnswer, IsAudited}
 use Rattle.qq_session.specs.Clients.{printed, may_hand}
-use Rattle.qq_session.specs.Shown.{Answered, WindowFull, effects_of_term, said_of}
+use Rattle.qq_session.specs.declared.shown.Shown.TheVariants.{Answered, WindowFull}
+use Rattle.qq_session.specs.Shown.{effects_of_term, said_of}
 use Rattle.qq_taker.specs.Seats.{taker_of}
 use Rattle.qq_taker.specs.declared.handed.Handed.{Handed}
 use Rattle.qq_session.proofs.Audits.{audit-front}

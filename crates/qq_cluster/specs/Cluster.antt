@@ -8,7 +8,7 @@ use Rattle.qq_disk.specs.declared.image.Image.{Image}
 use Rattle.qq_entry.specs.declared.queue.QueueArgs.{QueueArgs}
 use Rattle.qq_raft_model.specs.Group.{Group, has_node}
 use Rattle.qq_raft_model.specs.State.{Server}
-use Rattle.qq_session.specs.Shown.{Shown}
+use Rattle.qq_session.specs.declared.shown.Shown.{Shown}
 use Rattle.qq_cluster.specs.Queue.{Queue, Event, Mutes, Ends, Writes, Syncs, Stops, Finds, begin, after, said}
 
 -- what a cluster is started with

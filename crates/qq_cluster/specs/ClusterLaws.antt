@@ -11,7 +11,7 @@ use Rattle.qq_model.specs.State.{empty_queue}
 use Rattle.qq_script_lines.specs.declared.line.ScriptLine.{ScriptLine}
 use Rattle.qq_script_lines.specs.declared.line.ScriptLine.TheVariants.{Write, Sync, Notice, Tick}
 use Rattle.qq_session.specs.Printed.{IsAudited, IsConfirmedOnce}
-use Rattle.qq_session.specs.Shown.{Shown}
+use Rattle.qq_session.specs.declared.shown.Shown.{Shown}
 use Rattle.qq_taker.specs.declared.taker.Verdict.{Verdict}
 use Rattle.qq_cluster.specs.Queue.{Queue, Event, Judges, TellsEnded, TellsNotTaken, all_said, audit_rows, begin}
 use Rattle.qq_cluster.specs.Cluster.{Setup, Cluster, ClusterEvent, At, Fails, FindsEach, SaysDown, SaysEnded, Printed, Of, new_cluster, cluster_after, parts_of, all_prints}

@@ -21,7 +21,8 @@ use Rattle.qq_raft_model.specs.State.{Server}
 use Rattle.qq_session.specs.Arriving.{Deed, Hands, handed}
 use Rattle.qq_session.specs.Publishing.{new_numbers}
 use Rattle.qq_session.specs.Deeds.{takes_of}
-use Rattle.qq_session.specs.Shown.{Shown, Delivered, NoLeader, Taken}
+use Rattle.qq_session.specs.declared.shown.Shown.{Shown}
+use Rattle.qq_session.specs.declared.shown.Shown.TheVariants.{Delivered, NoLeader, Taken}
 use Rattle.qq_taker.specs.Seen.{seen_of}
 use Rattle.qq_taker.specs.declared.taker.Seen.{Seen}
 use Rattle.qq_taker.specs.declared.handed.Handed.{Handed}

@@ -1,6 +1,7 @@
 -- What comes of events outside of a cluster: the text that they print, what takers see, and what who listens hears.
 use Rattle.std.specs.Prelude.{ℕ, List, [], ◌∷◌, Option, Some, None, filter_map}
-use Rattle.qq_session.specs.Shown.{Shown, Answered, Attached, Delivered, Dropped, HasEnded, NoLeader, NotTaken, Taken, WindowFull}
+use Rattle.qq_session.specs.declared.shown.Shown.{Shown}
+use Rattle.qq_session.specs.declared.shown.Shown.TheVariants.{Answered, Attached, Delivered, Dropped, HasEnded, NoLeader, NotTaken, Taken, WindowFull}
 use Rattle.qq_taker.specs.Takers.{Takers, drop_at, give, hear, judge}
 use Rattle.qq_taker.specs.declared.handed.Handed.{Handed}
 use Rattle.qq_taker.specs.declared.heard.Heard.{Heard}

@@ -23,7 +23,9 @@ use Rattle.qq_raft_msg.specs.Rpc.{envelope}
 use Rattle.qq_raft_msg.specs.declared.rpc.Rpc.{Rpc}
 use Rattle.qq_session.specs.Publishing.{Numbers, next_command, hand, open_commands}
 use Rattle.qq_session.specs.Clients.{Clients, new_clients, hear_all, printed, may_hand, is_used}
-use Rattle.qq_session.specs.Shown.{Shown, Attached, HasEnded, IsBusy, NotTaken, WindowFull, effects_of_term, said_of}
+use Rattle.qq_session.specs.declared.shown.Shown.{Shown}
+use Rattle.qq_session.specs.declared.shown.Shown.TheVariants.{Attached, HasEnded, IsBusy, NotTaken, WindowFull}
+use Rattle.qq_session.specs.Shown.{effects_of_term, said_of}
 use Rattle.qq_taker.specs.Seats.{sit, taker_of}
 use Rattle.qq_taker.specs.declared.seats.Seat.{Seat}
 use Rattle.qq_taker.specs.declared.taker.Verdict.{Verdict}

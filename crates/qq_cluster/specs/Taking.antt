@@ -7,7 +7,8 @@ use Rattle.qq_entry.specs.declared.command.Command.TheVariants as commands
 use Rattle.qq_entry.specs.declared.command.Unstamped.{Unstamped}
 use Rattle.qq_entry.specs.declared.command.Unstamped.TheVariants as bodies
 use Rattle.qq_session.specs.Publishing.{closes}
-use Rattle.qq_session.specs.Shown.{Shown, Answered, Delivered, Dropped, Taken}
+use Rattle.qq_session.specs.declared.shown.Shown.{Shown}
+use Rattle.qq_session.specs.declared.shown.Shown.TheVariants.{Answered, Delivered, Dropped, Taken}
 use Rattle.qq_taker.specs.Seats.{leaving, staying, taker_of}
 use Rattle.qq_taker.specs.declared.seats.Leaving.{Leaving}
 use Rattle.qq_taker.specs.declared.seats.Leaving.TheVariants.{Consumer, Session}

@@ -14,13 +14,13 @@ ghost use Rattle.qq_model.specs.Audit.{deliveries, state_after};
 ghost use Rattle.qq_model.specs.State.{empty_queue};
 ghost use Rattle.qq_raft_model.specs.Group.{Group};
 ghost use Rattle.qq_raft_model.specs.State.{Server};
-ghost use Rattle.qq_session.specs.Shown.{NotTaken};
+ghost use Rattle.qq_session.specs.declared.shown.Shown.TheVariants.{NotTaken};
 ghost use Rattle.qq_cluster.specs.Cluster.{Cluster, ClusterEvent, Setup};
 ghost use Rattle.qq_cluster.specs.ClusterLaws.{HasGroups, PrintsInOrder, TellsWhatIsNotTaken};
 ghost use Rattle.qq_cluster.specs.Laws.{AreClaimed, IsBegun, deliveries_shown, deliveries_waiting, queue_after};
 ghost use Rattle.qq_cluster.specs.Queue.{Event, Fetches, all_said, audit_rows, begin, consumer_of, happens, leader};
 ghost use Rattle.qq_cluster.specs.Rules.{not_taken};
-ghost use Rattle.qq_cluster.specs.Texts.{shown_text};
+ghost use Rattle.qq_cluster.specs.Texts.{shown_text_at};
 
 use qq_consuming::{
     consumers_are_handed_their_deliveries, what_is_out_is_fetched,
@@ -55,7 +55,7 @@ pub fn claims_are_of_what_was_printed()
         (queue_after args group events).untold))
         (not_taken session body (queue_after args group events)) }
     ensures refused { (session : ℕ) (c : Cluster) → TellsWhatIsNotTaken session c }
-    ensures told { (setup : Setup) (id : ℕ) → shown_text setup setup.first (NotTaken 1 id)
+    ensures told { (setup : Setup) (id : ℕ) → shown_text_at setup setup.first (NotTaken 1 id)
         ≡ codes "not taken " ++ decimal id ++ codes "\n" }
 {}
 

@@ -3,19 +3,19 @@ ghost use Rattle.std.specs.Prelude.{◌≡◌, ℕ, codes};
 ghost use Rattle.qq_entry.specs.declared.audit.AuditRow.{AuditRow};
 ghost use Rattle.qq_session.specs.Printed.{PrintsEnd};
 ghost use Rattle.qq_session.specs.Clients.{Clients};
-ghost use Rattle.qq_session.specs.Shown.{HasEnded};
+ghost use Rattle.qq_session.specs.declared.shown.Shown.TheVariants.{HasEnded};
 ghost use Rattle.qq_cluster.specs.Cluster.{Cluster, Ended, Setup};
 ghost use Rattle.qq_cluster.specs.ClusterLaws.{GivesNoCommand};
 ghost use Rattle.qq_cluster.specs.Laws.{StaysEnded, TellsOfEnd};
 ghost use Rattle.qq_cluster.specs.Queue.{Queue};
-ghost use Rattle.qq_cluster.specs.Texts.{printed_text, shown_text};
+ghost use Rattle.qq_cluster.specs.Texts.{printed_text, shown_text_at};
 
 /// A law: a session that has ended stays so, whatever happens. It gives no command and sends none
 /// again: it is told that it has ended, and nothing else happens.
 pub fn an_ended_session_gives_no_commands()
     ensures stays { (session : ℕ) (q : Queue) → StaysEnded session q }
     ensures none { (setup : Setup) (session : ℕ) (c : Cluster) → GivesNoCommand setup session c }
-    ensures told { (setup : Setup) → shown_text setup setup.first (HasEnded 1) ≡ codes "ended\n" }
+    ensures told { (setup : Setup) → shown_text_at setup setup.first (HasEnded 1) ≡ codes "ended\n" }
     ensures told_once { (setup : Setup) → printed_text setup Ended ≡ codes "ended\n" }
 {}
 

@@ -15,7 +15,7 @@ ghost use Rattle.qq_raft_model.specs.Promises.{AreDistinct};
 ghost use Rattle.qq_raft_model.specs.Server.{is_ready};
 ghost use Rattle.qq_raft_model.specs.State.{Server};
 ghost use Rattle.qq_session.specs.Publishing.{next_command, hand, open_commands};
-ghost use Rattle.qq_session.specs.Shown.{NoLeader, WindowFull};
+ghost use Rattle.qq_session.specs.declared.shown.Shown.TheVariants.{NoLeader, WindowFull};
 ghost use Rattle.qq_cluster.specs.Counts.{counts, counts_of};
 ghost use Rattle.qq_cluster.specs.Laws.{CountsRise, IsBegun, IsOwnTo, KeepsAudit, all_moves, queue_after};
 ghost use Rattle.qq_cluster.specs.Queue.{Event, Queue, Submits, Resends, audit_rows, begin, happens, leader, moves, own_effects, own_rows, said};

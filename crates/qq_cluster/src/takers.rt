@@ -6,7 +6,7 @@ ghost use Rattle.qq_model.specs.Audit.{deliveries};
 ghost use Rattle.qq_model.specs.State.{empty_queue};
 ghost use Rattle.qq_raft_model.specs.Group.{Group};
 ghost use Rattle.qq_script_lines.specs.declared.line.ScriptLine.{ScriptLine};
-ghost use Rattle.qq_session.specs.Shown.{Dropped, IsBusy};
+ghost use Rattle.qq_session.specs.declared.shown.Shown.TheVariants.{Dropped, IsBusy};
 ghost use Rattle.qq_taker.specs.Seats.{taker_of};
 ghost use Rattle.qq_taker.specs.Takers.{Takers, hear_on};
 ghost use Rattle.qq_taker.specs.declared.heard.Heard.{Heard};
@@ -16,7 +16,7 @@ ghost use Rattle.qq_cluster.specs.Laws.{IsBegun, IsNewTaker, IsRun, deliveries_s
 ghost use Rattle.qq_cluster.specs.Lines.{IsLine, IsRun as IsRunOf};
 ghost use Rattle.qq_cluster.specs.Outcome.{all_heard, takers_after};
 ghost use Rattle.qq_cluster.specs.Queue.{Attaches, Event, Queue, all_said, audit_rows, begin, consumer_of, happens, said};
-ghost use Rattle.qq_cluster.specs.Texts.{shown_text};
+ghost use Rattle.qq_cluster.specs.Texts.{shown_text_at};
 
 use qq_consuming::{consumers_are_handed_their_deliveries, what_is_out_was_delivered_as_it_is};
 use qq_raft_model::what_a_group_committed_stays;
@@ -71,9 +71,9 @@ pub fn a_consumer_has_one_taker()
         taker_of (consumer_of session tag) q.seats ≡ Some other →
         ((happens q (Attaches session tag number)).seats ≡ q.seats)
         × (said q (Attaches session tag number) ≡ IsBusy session other ∷ []) }
-    ensures busy { (setup : Setup) (number : ℕ) → shown_text setup setup.first (IsBusy 1 number)
+    ensures busy { (setup : Setup) (number : ℕ) → shown_text_at setup setup.first (IsBusy 1 number)
         ≡ codes "busy " ++ decimal number ++ codes "\n" }
     ensures dropped { (setup : Setup) (number : ℕ) →
-        shown_text setup setup.first (Dropped 1 number)
+        shown_text_at setup setup.first (Dropped 1 number)
         ≡ codes "dropped " ++ decimal number ++ codes "\n" }
 {}

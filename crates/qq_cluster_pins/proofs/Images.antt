@@ -24,7 +24,7 @@ use Rattle.qq_raft_model.specs.State.{Server}
 use Rattle.qq_raft_protocol.specs.Facts.{In as Among, add}
 use Rattle.qq_raft_protocol.specs.Safe.{IsCarried}
 use Rattle.qq_raft_protocol.specs.World.{Lane}
-use Rattle.qq_session.specs.Shown.{Answered}
+use Rattle.qq_session.specs.declared.shown.Shown.TheVariants.{Answered}
 use Rattle.qq_wal.specs.Running.{top}
 use Rattle.qq_wal_chain.specs.Lanes.{Lanes}
 use Rattle.qq_wal_chain.specs.Laws.{IsHonestImage, lanes_read}

@@ -16,7 +16,7 @@ ghost use Rattle.qq_raft_model.specs.Group.Event.{Submit};
 ghost use Rattle.qq_raft_model.specs.Server.{is_ready};
 ghost use Rattle.qq_raft_model.specs.State.{Server};
 ghost use Rattle.qq_session.specs.Clients.{Clients, ended_by, is_printed, sender};
-ghost use Rattle.qq_session.specs.Shown.{Answered, Delivered, NoLeader, Taken};
+ghost use Rattle.qq_session.specs.declared.shown.Shown.TheVariants.{Answered, Delivered, NoLeader, Taken};
 ghost use Rattle.qq_taker.specs.declared.taker.Verdict.{Verdict};
 ghost use Rattle.qq_cluster.specs.Cluster.{At, Cluster, ClusterEvent, Of, SaysEnded, Setup, all_prints, cluster_after, new_cluster};
 ghost use Rattle.qq_cluster.specs.ClusterLaws.{HasGroups};

@@ -11,7 +11,7 @@ ghost use Rattle.qq_log.specs.declared.op.Op.{Op};
 ghost use Rattle.qq_raft_model.specs.Group.{has_node};
 ghost use Rattle.qq_raft_model.specs.Promises.{members_of};
 ghost use Rattle.qq_raft_model.specs.State.{Server};
-ghost use Rattle.qq_session.specs.Shown.{Answered};
+ghost use Rattle.qq_session.specs.declared.shown.Shown.TheVariants.{Answered};
 ghost use Rattle.qq_wal.specs.Running.{top};
 ghost use Rattle.qq_wal_chain.specs.Lanes.{Lanes, of_queue};
 ghost use Rattle.qq_wal_chain.specs.Laws.{HoldsOps, IsHonestImage, lanes_read};

@@ -15,7 +15,7 @@ ghost use Rattle.qq_model.specs.declared.place.Row.{Row};
 ghost use Rattle.qq_raft_model.specs.State.{Server};
 ghost use Rattle.qq_raft_model.specs.Group.{Group};
 ghost use Rattle.qq_script_lines.specs.declared.line.ScriptLine.{ScriptLine};
-ghost use Rattle.qq_session.specs.Shown.{Answered, Attached, Delivered, Dropped, HasEnded, IsBusy, NoLeader, NotTaken, Taken, WindowFull};
+ghost use Rattle.qq_session.specs.declared.shown.Shown.TheVariants.{Answered, Attached, Delivered, Dropped, HasEnded, IsBusy, NoLeader, NotTaken, Taken, WindowFull};
 ghost use Rattle.qq_taker.specs.Takers.{Free, Given, Gone, Held, Takers, taker_at};
 ghost use Rattle.qq_taker.specs.declared.handed.Handed.{Handed};
 ghost use Rattle.qq_taker.specs.declared.heard.Heard.{Heard};

@@ -8,7 +8,7 @@ ghost use Rattle.qq_entry.specs.declared.command.Command.TheVariants.{Cancel, Do
 ghost use Rattle.qq_entry.specs.declared.command.Stamp.{Stamp};
 ghost use Rattle.qq_entry.specs.declared.command.Unstamped.TheVariants.{Discard as DiscardIds, Return as ReturnIds, Settle as SettleIds};
 ghost use Rattle.qq_session.specs.Publishing.{closes};
-ghost use Rattle.qq_session.specs.Shown.{Answered, Attached, Delivered, Dropped, IsBusy, Taken};
+ghost use Rattle.qq_session.specs.declared.shown.Shown.TheVariants.{Answered, Attached, Delivered, Dropped, IsBusy, Taken};
 ghost use Rattle.qq_taker.specs.Seats.{sit};
 ghost use Rattle.qq_taker.specs.declared.handed.Handed.{Handed};
 ghost use Rattle.qq_taker.specs.declared.seats.Seat.{Seat};

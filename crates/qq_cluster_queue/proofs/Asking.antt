@@ -37,21 +37,20 @@ use Rattle.qq_group.specs.Reads.{leader_of, machine_at}
 use Rattle.qq_group_laws.specs.Audited.{IsAuditedBy}
 use Rattle.qq_session.specs.Clients.{Clients}
 use Rattle.qq_cluster.specs.Delivering.{applied_by, come_all, fetch, hand_all, is_consumer_of}
-use Rattle.qq_cluster.specs.Outcome.{Outcome}
 use Rattle.qq_cluster.specs.Taking.{delivered, told_then, waiting_then}
-use Rattle.qq_session.specs.Shown.{Shown}
+use Rattle.qq_session.specs.declared.shown.Shown.{Shown}
 use Rattle.qq_taker.specs.declared.handed.Handed.{Handed}
 use Rattle.qq_taker.specs.declared.seats.Seat.{Seat}
 use Rattle.qq_cluster.specs.Queue.{Queue, Fetches, handed_out, happens, leader, said, server_of as server_in}
-use Rattle.qq_cluster_queue.specs.ClusterQueue.{Shows, Stands}
-use Rattle.qq_cluster_queue.specs.Telling.{show_all}
+use Rattle.qq_cluster_queue.specs.ClusterQueue.{Stands}
+use Rattle.qq_cluster_queue.specs.Telling.{HasHanded}
 use Rattle.qq_cluster_queue.specs.Fetching.{fetched_all, fetched_by}
 use Rattle.qq_cluster_queue.specs.Members.{IsGroupOf, Member, Members, number_of, own_log, queue_stands, queue_step}
 use Rattle.qq_cluster_queue.specs.Sessions.{Standings, clients_of, no_numbers, numbers_of}
 use Rattle.qq_cluster_queue.specs.declared.cluster_queue.ClusterQueue.{ClusterQueue}
 use Rattle.qq_cluster_queue.proofs.Fetched.{fetched-out}
 use Rattle.qq_cluster_queue.proofs.Happening.{stands-then, tells-nothing, waits-nothing}
-use Rattle.qq_cluster_queue.proofs.Showing.{shows-of}
+use Rattle.qq_cluster_queue.proofs.Showing.{shows-nothing, shows-of}
 use Rattle.qq_cluster_queue.proofs.Hearing.{came-then, hand-same}
 use Rattle.qq_cluster_queue.proofs.Members.{raft_of, seat-is}
 use Rattle.qq_cluster_queue.proofs.Offering.{leader-is}
@@ -181,23 +180,17 @@ machine-stands known committed args g group k s it up =
 
 -- ---- the call
 
--- what was handed out of these effects
-pub record HasHanded (own : Clients) (effects : List Effect) (old new : ClusterQueue) (before after : Outcome) : Type 0
-  where
-    pub came : new.consumers ≡ come_all own effects old.consumers
-    pub seats : new.seats ≡ old.seats
-    pub untold : new.untold ≡ waiting_then old.untold old.seats (hand_all own effects old.consumers)
-    pub said : after
-        ≡ show_all old.label (delivered (told_then old.untold old.seats (hand_all own effects old.consumers))) before
-
 -- a fetch by a member of the group, or by none
 pub fetches : (sessions : Standings) (old new : ClusterQueue) (q : Queue) (session : ℕ) (effects : List Effect)
-    (before after : Outcome) → Stands sessions old q
-    → effects ≡ fetch q.args (server_in (leader q.group) q.group) session q.consumers → new.args ≡ old.args
-    → new.group ≡ old.group → new.synced ≡ old.synced → new.publishers ≡ old.publishers
+    (before after : List Shown) → Stands sessions old q
+    → effects ≡ fetch q.args (server_in (leader q.group) q.group) session q.consumers
     → HasHanded (clients_of sessions (numbers_of old.publishers)) effects old new before after
-    → Stands sessions new (happens q (Fetches session)) × Shows old (said q (Fetches session)) before after
-fetches sessions old new q session effects before after st is args group synced publishers h =
+    → Stands sessions new (happens q (Fetches session)) × (after ≡ before ++ said q (Fetches session))
+fetches sessions old new q session effects before after st is h =
+    let args : new.args ≡ old.args = ap (λ (d : ClusterQueue). d.args) h.rest in
+    let group : new.group ≡ old.group = ap (λ (d : ClusterQueue). d.group) h.rest in
+    let synced : new.synced ≡ old.synced = ap (λ (d : ClusterQueue). d.synced) h.rest in
+    let seats : new.seats ≡ old.seats = ap (λ (d : ClusterQueue). d.seats) h.rest in
     let own : Clients = clients_of sessions (numbers_of old.publishers) in
     let all : List Effect = fetch q.args (server_in (leader q.group) q.group) session q.consumers in
     let handed : handed_out q (Fetches session) ≡ hand_all own effects old.consumers =
@@ -206,16 +199,16 @@ fetches sessions old new q session effects before after st is args group synced 
       stands-then sessions old new q (Fetches session) st (
         subst (λ (x : Members). IsGroupOf old.args q.group x) (sym group) st.group,
         λ k down. ap (λ (x : Members). server_at k x) group ∙ down,
-      ) args (st.clients ∙ ap (λ (p : _). clients_of sessions (numbers_of p)) (sym publishers))
+      ) args (st.clients ∙ ap (λ (d : ClusterQueue). clients_of sessions (numbers_of d.publishers)) (sym h.rest))
           (ap (λ (c : Clients). come_all c all q.consumers) st.clients ∙ ap (come_all own all) st.consumers
           ∙ ap (λ (l : List Effect). come_all own l old.consumers) (sym is) ∙ sym h.came)
           (record {
-            seats = st.seats ∙ sym h.seats;
+            seats = st.seats ∙ sym seats;
             untold = ap (λ (l : List Handed). waiting_then l q.seats (handed_out q (Fetches session))) st.untold
                 ∙ ap (λ (l : List Seat). waiting_then old.untold l (handed_out q (Fetches session))) st.seats
                 ∙ ap (waiting_then old.untold old.seats) handed ∙ sym h.untold;
           }) synced refl,
-      shows-of old (delivered (told_then old.untold old.seats (hand_all own effects old.consumers)))
+      shows-of (delivered (told_then old.untold old.seats (hand_all own effects old.consumers)))
           (said q (Fetches session)) before after
           (ap (λ (l : List Handed). delivered (told_then l q.seats (handed_out q (Fetches session)))) st.untold
           ∙ ap (λ (l : List Seat). delivered (told_then old.untold l (handed_out q (Fetches session)))) st.seats
@@ -254,28 +247,26 @@ pub machine-of : (o : Option Member) (m : MachineQueue) → Some m ≡ machine_a
 machine-of None m is = absurd (let e : ◌≡◌ {A = Option MachineQueue} (Some m) None = is in cc)
 machine-of (Some s) m is = (let own : s.machine ≡ m = cc in record { member = s; up = refl; own = own })
 
-pub silent-does : (sessions : Standings) (d : ClusterQueue) (q : Queue) (session : ℕ) (before : Outcome)
+pub silent-does : (sessions : Standings) (d : ClusterQueue) (q : Queue) (session : ℕ) (before : List Shown)
     → Stands sessions d q → None ≡ leader_of own_log d.group
-    → Stands sessions d (happens q (Fetches session)) × Shows d (said q (Fetches session)) before before
+    → Stands sessions d (happens q (Fetches session)) × (before ≡ before ++ said q (Fetches session))
 silent-does sessions d q session before st none' =
     let nobody : leader q.group ≡ None = leader-is q.group d.group st.group.represents ∙ ap number_of (sym none') in
-    fetches sessions d d q session [] before before st (fetched-none sessions d q session st nobody) refl refl refl refl
+    fetches sessions d d q session [] before before st (fetched-none sessions d q session st nobody)
     (record {
       came = refl;
-      seats = refl;
       untold = sym (waits-nothing d.untold d.seats);
-      said = ap (λ (l : List Shown). show_all d.label l before) (sym (tells-nothing d.untold d.seats));
+      said = shows-nothing (delivered (told_then d.untold d.seats [])) before (tells-nothing d.untold d.seats);
+      rest = refl;
     })
 
 pub fetch-does : AreKnown → AreCommitted → PartsRead → PartsEnd → (sessions : Standings) (old new : ClusterQueue)
-    (q : Queue) (session : ℕ) (node : NodeId) (m : MachineQueue) (effects : List Effect) (before after : Outcome)
+    (q : Queue) (session : ℕ) (node : NodeId) (m : MachineQueue) (effects : List Effect) (before after : List Shown)
     → Stands sessions old q → Some node ≡ leader_of own_log old.group → Some m ≡ machine_at (server_at node.0 old.group)
-    → effects ≡ fetched_all m.machine (client session) old.consumers → new.args ≡ old.args → new.group ≡ old.group
-    → new.synced ≡ old.synced → new.publishers ≡ old.publishers
+    → effects ≡ fetched_all m.machine (client session) old.consumers
     → HasHanded (clients_of sessions no_numbers) effects old new before after
-    → Stands sessions new (happens q (Fetches session)) × Shows old (said q (Fetches session)) before after
-fetch-does known committed reads ends sessions old new q session node m effects before after st leads machine is args
-    group synced publishers h' =
+    → Stands sessions new (happens q (Fetches session)) × (after ≡ before ++ said q (Fetches session))
+fetch-does known committed reads ends sessions old new q session node m effects before after st leads machine is h' =
     let h : HasMachine (server_at node.0 old.group) m = machine-of (server_at node.0 old.group) m machine in
     let lead : leader q.group ≡ Some node.0 =
     leader-is q.group old.group st.group.represents ∙ ap number_of (sym leads) in
@@ -285,11 +276,10 @@ fetch-does known committed reads ends sessions old new q session node m effects 
     fetches sessions old new q session effects before after st
     (is ∙ ap (λ (x : MachineQueue). fetched_all x.machine (client session) old.consumers) (sym h.own)
     ∙ fetched-is known committed reads ends sessions old q session node.0 h.member st lead h.up)
-    args group synced publishers
     (record {
       came = came-then sessions no_numbers (numbers_of old.publishers) effects old.consumers new.consumers h'.came;
-      seats = h'.seats;
       untold = h'.untold ∙ ap (waiting_then old.untold old.seats) same;
       said = h'.said
-          ∙ ap (λ (l : List Handed). show_all old.label (delivered (told_then old.untold old.seats l)) before) same;
+          ∙ ap (λ (l : List Handed). before ++ delivered (told_then old.untold old.seats l)) same;
+      rest = h'.rest;
     })

@@ -16,14 +16,14 @@ use Rattle.qq_raft.specs.declared.row.AppliedRow.{AppliedRow}
 use Rattle.qq_group.specs.Group.{Represents, server_at}
 use Rattle.qq_group.specs.Reads.{receiver_of}
 use Rattle.qq_session.specs.Clients.{Clients, hear_all, printed}
+use Rattle.qq_session.specs.declared.shown.Shown.{Shown}
 use Rattle.qq_taker.specs.declared.handed.Handed.{Handed}
 use Rattle.qq_taker.specs.declared.seats.Seat.{Seat}
 use Rattle.qq_cluster.specs.Delivering.{come_all, hand_all}
-use Rattle.qq_cluster.specs.Outcome.{Outcome}
 use Rattle.qq_cluster.specs.Taking.{answers, delivered, seated, told_then, waiting_then}
 use Rattle.qq_cluster.specs.Queue.{Queue, Event, Copies, Delivers, Loses, Notices, acts, effects_shown, effects_told, group_then, handed_out, happens, known, moves, receiver_by, rows_told, said, seats_after, stepping, synced_after, told, untold_after}
-use Rattle.qq_cluster_queue.specs.ClusterQueue.{Becomes, Shows, Stands, count_at}
-use Rattle.qq_cluster_queue.specs.Telling.{show_all}
+use Rattle.qq_cluster_queue.specs.ClusterQueue.{Becomes, Stands, count_at}
+use Rattle.qq_cluster_queue.specs.Telling.{HasTold}
 use Rattle.qq_cluster_queue.specs.Members.{AreTold, IsGroupOf, Makes, Member, Members, StayDown, audit_rows_of, effects_in, move_at, number_of, own_log}
 use Rattle.qq_cluster_queue.specs.Sessions.{Standings, clients_of, numbers_of}
 use Rattle.qq_cluster_queue.specs.declared.cluster_queue.ClusterQueue.{ClusterQueue}
@@ -164,41 +164,36 @@ rows-are sessions old q event made k rows st t a =
     (subst (λ (j : Option ℕ). AreTold j old.args q.group (group_then q event) rows) (sym t.member)
     (subst (λ (h : GroupState). AreTold k old.args q.group h rows) (sym t.group_is) a))
 
--- what a member tells, by the rows that the code was given
-pub record HasTold (own : Clients) (rows : List AppliedRow) (old new : ClusterQueue) (before after : Outcome) : Type 0
-  where
-    pub came : new.consumers ≡ come_all own (effects_in rows) old.consumers
-    pub seats : new.seats ≡ seated old.seats (printed (audit_rows_of rows) own)
-    pub untold : new.untold ≡ waiting_then old.untold new.seats (hand_all own (effects_in rows) old.consumers)
-    pub said : after ≡ show_all old.label (answers old.seats (printed (audit_rows_of rows) own)
-        ++ delivered (told_then old.untold new.seats (hand_all own (effects_in rows) old.consumers))) before
-
-pub telling-does : (sessions : Standings) (old new : ClusterQueue) (q : Queue) (event : Event) (made : List Move)
-    (k : Option ℕ) (rows slice : List AppliedRow) (before after : Outcome) → Stands sessions old q
-    → IsTelling event q made k → Makes made old.group new.group → slice ≡ rows
-    → AreTold k old.args q.group (group_after q.group made) rows → new.args ≡ old.args → new.synced ≡ old.synced
-    → clients_of sessions (numbers_of new.publishers)
-    ≡ hear_all (audit_rows_of slice) (clients_of sessions (numbers_of old.publishers))
-    → HasTold (clients_of sessions (numbers_of old.publishers)) slice old new before after
-    → Stands sessions new (happens q event) × Shows old (said q event) before after
-telling-does sessions old new q event made k rows slice before after st t makes is a args synced heard told' =
+-- the members have made these moves, and the clients have heard what that told
+pub telling-does : (sessions : Standings) (old new : ClusterQueue) (made-group : Members) (q : Queue) (event : Event)
+    (made : List Move) (k : Option ℕ) (rows : List AppliedRow) (before after : List Shown) → Stands sessions old q
+    → IsTelling event q made k → Makes made old.group made-group
+    → AreTold k old.args q.group (group_after q.group made) rows
+    → HasTold sessions rows (record old { group = made-group }) new before after
+    → Stands sessions new (happens q event) × (after ≡ before ++ said q event)
+telling-does sessions old new made-group q event made k rows before after st t makes' a told' =
+    let mid : ClusterQueue = record old { group = made-group } in
+    let grouped : new.group ≡ made-group = ap (λ (d : ClusterQueue). d.group) told'.rest in
+    let makes : Makes made old.group new.group = subst (Makes made old.group) (sym grouped) makes' in
+    let args : new.args ≡ old.args = ap (λ (d : ClusterQueue). d.args) told'.rest in
+    let synced : new.synced ≡ old.synced = ap (λ (d : ClusterQueue). d.synced) told'.rest in
     let group = makes old.args q.group st.group in
     let rows' : AreTold (stepping q event) q.args q.group (group_then q event) rows =
     rows-are sessions old q event made k rows st t a in
     let own : Clients = clients_of sessions (numbers_of old.publishers) in
-    let effects : effects_shown q event ≡ effects_in slice =
-    t.shown_is ∙ sym rows'.effects_are ∙ ap effects_in (sym is) in
+    let effects : effects_shown q event ≡ effects_in rows =
+    t.shown_is ∙ sym rows'.effects_are in
     let known' : known q.clients event q.consumers ≡ old.consumers = t.known_none ∙ st.consumers in
-    let answered : printed (rows_told q event) q.clients ≡ printed (audit_rows_of slice) own =
+    let answered : printed (rows_told q event) q.clients ≡ printed (audit_rows_of rows) own =
     ap (printed (rows_told q event)) st.clients
-    ∙ ap (λ (l : List AuditRow). printed l own) (sym rows'.rows_are ∙ ap audit_rows_of (sym is)) in
-    let handed : handed_out q event ≡ hand_all own (effects_in slice) old.consumers =
+    ∙ ap (λ (l : List AuditRow). printed l own) (sym rows'.rows_are) in
+    let handed : handed_out q event ≡ hand_all own (effects_in rows) old.consumers =
     ap (λ (c : Clients). hand_all c (effects_shown q event) (known q.clients event q.consumers)) st.clients
     ∙ ap (λ (l : List Effect). hand_all own l (known q.clients event q.consumers)) effects
-    ∙ ap (hand_all own (effects_in slice)) known' in
+    ∙ ap (hand_all own (effects_in rows)) known' in
     let seats : seats_after q event ≡ new.seats =
     t.seats_is ∙ ap (seated q.seats) answered
-    ∙ ap (λ (l : List Seat). seated l (printed (audit_rows_of slice) own)) st.seats ∙ sym told'.seats in
+    ∙ ap (λ (l : List Seat). seated l (printed (audit_rows_of rows) own)) st.seats ∙ sym told'.seats in
     let untold : untold_after q event ≡ new.untold =
     t.untold_is ∙ ap (λ (l : List Handed). waiting_then l (seats_after q event) (handed_out q event)) st.untold
     ∙ ap (λ (l : List Seat). waiting_then old.untold l (handed_out q event)) seats
@@ -206,25 +201,24 @@ telling-does sessions old new q event made k rows slice before after st t makes 
       stands-then sessions old new q event st
           (subst (λ (h : GroupState). IsGroupOf old.args h new.group) (sym t.group_is) group.0, group.1) args
           (ap (hear_all (rows_told q event)) (t.acts_none ∙ st.clients)
-          ∙ ap (λ (l : List AuditRow). hear_all l own) (sym rows'.rows_are)
-          ∙ ap (λ (l : List AppliedRow). hear_all (audit_rows_of l) own) (sym is) ∙ sym heard)
+          ∙ ap (λ (l : List AuditRow). hear_all l own) (sym rows'.rows_are) ∙ sym told'.heard)
           (ap (λ (c : Clients). come_all c (effects_shown q event) (known q.clients event q.consumers)) st.clients
           ∙ ap (come_all own (effects_shown q event)) known'
           ∙ ap (λ (l : List Effect). come_all own l old.consumers) effects ∙ sym told'.came)
           (record { seats = seats; untold = untold }) synced t.synced_is,
-      shows-of old (answers old.seats (printed (audit_rows_of slice) own)
-          ++ delivered (told_then old.untold new.seats (hand_all own (effects_in slice) old.consumers))) (said q event)
+      shows-of (answers old.seats (printed (audit_rows_of rows) own)
+          ++ delivered (told_then old.untold new.seats (hand_all own (effects_in rows) old.consumers))) (said q event)
           before after
           (t.says
           ∙ ap (λ (l : List AuditRow). answers q.seats l
           ++ delivered (told_then q.untold (seats_after q event) (handed_out q event))) answered
-          ∙ ap (λ (l : List Seat). answers l (printed (audit_rows_of slice) own)
+          ∙ ap (λ (l : List Seat). answers l (printed (audit_rows_of rows) own)
           ++ delivered (told_then q.untold (seats_after q event) (handed_out q event))) st.seats
-          ∙ ap (λ (l : List Handed). answers old.seats (printed (audit_rows_of slice) own)
+          ∙ ap (λ (l : List Handed). answers old.seats (printed (audit_rows_of rows) own)
           ++ delivered (told_then l (seats_after q event) (handed_out q event))) st.untold
-          ∙ ap (λ (l : List Seat). answers old.seats (printed (audit_rows_of slice) own)
+          ∙ ap (λ (l : List Seat). answers old.seats (printed (audit_rows_of rows) own)
           ++ delivered (told_then old.untold l (handed_out q event))) seats
-          ∙ ap (λ (l : List Handed). answers old.seats (printed (audit_rows_of slice) own)
+          ∙ ap (λ (l : List Handed). answers old.seats (printed (audit_rows_of rows) own)
           ++ delivered (told_then old.untold new.seats l)) handed)
           told'.said,
     )

@@ -16,7 +16,9 @@ use Rattle.qq_entry.specs.declared.audit.Effect.{Effect}
 use Rattle.qq_entry.specs.declared.audit.Effect.TheVariants.{Deliver, DeadOnce, Offer}
 use Rattle.qq_session.specs.Publishing.{Numbers, answer, closes, new_numbers}
 use Rattle.qq_session.specs.Clients.{Client, Clients, hear_all, hear_by, is_printed, printed, take_answer}
-use Rattle.qq_session.specs.Shown.{Answered, Shown, is_delivered_to}
+use Rattle.qq_session.specs.declared.shown.Shown.{Shown}
+use Rattle.qq_session.specs.declared.shown.Shown.TheVariants.{Answered}
+use Rattle.qq_session.specs.Shown.{is_delivered_to}
 use Rattle.qq_taker.specs.declared.handed.Handed.{Handed}
 use Rattle.qq_taker.specs.declared.seats.Seat.{Seat}
 use Rattle.qq_cluster.specs.Delivering.{come_all, comes, hand_all, hands}

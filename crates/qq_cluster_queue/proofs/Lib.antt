@@ -5,6 +5,7 @@ mod Rows
 mod Current
 mod Members
 mod Showing
+mod Told
 mod Waits
 mod Happening
 mod Verdicts

@@ -22,15 +22,14 @@ use Rattle.qq_consuming.specs.Consumers.{know_by}
 use Rattle.qq_consuming.specs.Consuming.{Received}
 use Rattle.qq_session.specs.Publishing.{Numbers, hand, next_command, open_commands}
 use Rattle.qq_session.specs.Clients.{Client, Clients, is_used, may_hand}
-use Rattle.qq_session.specs.Shown.{WindowFull, HasEnded, NotTaken, said_of}
+use Rattle.qq_session.specs.declared.shown.Shown.{Shown}
+use Rattle.qq_session.specs.declared.shown.Shown.TheVariants.{WindowFull, HasEnded, NotTaken}
+use Rattle.qq_session.specs.Shown.{said_of}
 use Rattle.qq_cluster.specs.Delivering.{learn}
-use Rattle.qq_cluster.specs.Outcome.{Outcome}
 use Rattle.qq_cluster.specs.Queue.{Queue, Event, Leading, Submits, Resends, Downs, TellsEnded, TellsNotTaken, acts, group_then, happens, has_leader, later, leader, leading, moves, node_of, offered, said, submit_to, submits, synced_after}
 use Rattle.qq_cluster.proofs.Groups.{group-append}
-use Rattle.qq_cluster_queue.specs.ClusterQueue.{HasRefused, IsOfferCaused, Shows, Stands}
+use Rattle.qq_cluster_queue.specs.ClusterQueue.{HasRefused, IsOfferCaused, Stands}
 use Rattle.qq_cluster_queue.specs.Members.{AreSound, IsGroupOf, Makes, Member, Members, number_of, own_log}
-use Rattle.qq_cluster_queue.specs.Telling.{show_all}
-use Rattle.qq_cluster_queue.specs.declared.label.Label.{Label}
 use Rattle.qq_cluster_queue.specs.Sessions.{Standings, clients_of, numbers_of}
 use Rattle.qq_cluster_queue.specs.declared.cluster_queue.ClusterQueue.{ClusterQueue}
 use Rattle.qq_cluster_queue.proofs.Members.{raft_of, seat-is}
@@ -159,11 +158,12 @@ submits-one o command = append-nil (submit_to o command)
 -- ---- what is said of commands
 
 -- what one command says, and then the others, is what all say
-pub said-then : (label : Label) (ready : Bool) (session : ℕ) (command : Command) (more : List Command) (o : Outcome)
-    → show_all label (said_of ready session more) (show_all label (said_of ready session (command ∷ [])) o)
-    ≡ show_all label (said_of ready session (command ∷ more)) o
-said-then label true session command more o = refl
-said-then label false session command more o = refl
+pub said-then : (ready : Bool) (session : ℕ) (command : Command) (more : List Command) (o : List Shown)
+    → (o ++ said_of ready session (command ∷ [])) ++ said_of ready session more
+    ≡ o ++ said_of ready session (command ∷ more)
+said-then true session command more o = append_assoc o [] []
+said-then false session command more o =
+    append_assoc o (said_of false session (command ∷ [])) (said_of false session more)
 
 pub said-none : (ready : Bool) (session : ℕ) → said_of ready session [] ≡ []
 said-none true session = refl
@@ -179,13 +179,13 @@ pub record IsOffering (event : Event) (q : Queue) (session : ℕ) (given : List 
   pub says : said q event ≡ said_of (has_leader q) session given
 
 pub offering-does : (sessions : Standings) (old new : ClusterQueue) (q : Queue) (event : Event) (session : ℕ)
-    (given : List Command) (o : Option NodeId) (before after : Outcome) → Stands sessions old q
+    (given : List Command) (o : Option NodeId) (before after : List Shown) → Stands sessions old q
     → IsOffering event q session given → o ≡ leader_of own_log old.group
     → Makes (submits (number_of o) given) old.group new.group → new.args ≡ old.args → new.synced ≡ old.synced
     → (happens q event).clients ≡ clients_of sessions (numbers_of new.publishers)
     → (happens q event).consumers ≡ new.consumers → new.seats ≡ old.seats → new.untold ≡ old.untold
-    → after ≡ show_all old.label (said_of (is_some o) session given) before
-    → Stands sessions new (happens q event) × Shows old (said q event) before after
+    → after ≡ before ++ (said_of (is_some o) session given)
+    → Stands sessions new (happens q event) × (after ≡ before ++ said q event)
 offering-does sessions old new q event session given o before after st f lead makes args synced clients consumers
     seats untold said' =
     let group = makes old.args q.group st.group in
@@ -196,7 +196,7 @@ offering-does sessions old new q event session given o before after st f lead ma
             (sym (f.moves_are ∙ ap (λ (x : Option ℕ). submits x given) own)) group.0,
         group.1,
       ) args clients consumers (keeps-takers sessions old new q event st f.takers seats untold) synced f.synced_is,
-      shows-of old (said_of (is_some o) session given) (said q event) before after
+      shows-of (said_of (is_some o) session given) (said q event) before after
           (f.says ∙ ap (λ (b : Bool). said_of b session given) (ap is_some own ∙ number-some o)) said',
     )
 
@@ -356,7 +356,7 @@ one-makes o command old new makes args g it =
 
 -- a command was given the next number and offered
 pub submit-does : (sessions : Standings) (old new : ClusterQueue) (q : Queue) (session : ℕ) (body : Unstamped)
-    (command : Command) (o : Option NodeId) (before after : Outcome) → Stands sessions old q
+    (command : Command) (o : Option NodeId) (before after : List Shown) → Stands sessions old q
     → length (numbers_of old.publishers session).opened < WINDOW
     → command ≡ next_command body (numbers_of old.publishers session) → o ≡ leader_of own_log old.group
     → Makes (submit_to (number_of o) command) old.group new.group → new.args ≡ old.args → new.synced ≡ old.synced
@@ -364,9 +364,9 @@ pub submit-does : (sessions : Standings) (old new : ClusterQueue) (q : Queue) (s
     ≡ put session (hand body (numbers_of old.publishers session)) (numbers_of old.publishers)
     → new.consumers ≡ cond (may_hand (numbers_of old.publishers session))
     (know_by (client session) body old.consumers) old.consumers → new.seats ≡ old.seats → new.untold ≡ old.untold
-    → after ≡ show_all old.label (said_of (is_some o) session (command ∷ [])) before
+    → after ≡ before ++ (said_of (is_some o) session (command ∷ []))
     → Stands sessions new (happens q (Submits session body))
-    × Shows old (said q (Submits session body)) before after
+    × (after ≡ before ++ said q (Submits session body))
 submit-does sessions old new q session body command o before after st less is lead makes args synced numbers knows
     seats untold said' =
     let room : may_hand (numbers_of old.publishers session) ≡ true =
@@ -379,14 +379,14 @@ submit-does sessions old new q session body command o before after st less is le
 
 -- the session's window is full
 pub full-does : (sessions : Standings) (old new : ClusterQueue) (q : Queue) (session : ℕ) (body : Unstamped)
-    (before after : Outcome) → Stands sessions old q → length (numbers_of old.publishers session).opened ≡ WINDOW
+    (before after : List Shown) → Stands sessions old q → length (numbers_of old.publishers session).opened ≡ WINDOW
     → new.args ≡ old.args → new.group ≡ old.group → new.synced ≡ old.synced
     → numbers_of new.publishers ≡ numbers_of old.publishers
     → new.consumers ≡ cond (may_hand (numbers_of old.publishers session))
     (know_by (client session) body old.consumers) old.consumers → new.seats ≡ old.seats → new.untold ≡ old.untold
-    → after ≡ show_all old.label (WindowFull session ∷ []) before
+    → after ≡ before ++ (WindowFull session ∷ [])
     → Stands sessions new (happens q (Submits session body))
-    × Shows old (said q (Submits session body)) before after
+    × (after ≡ before ++ said q (Submits session body))
 full-does sessions old new q session body before after st is args group synced numbers consumers seats untold
     said' =
     let full : may_hand (numbers_of old.publishers session) ≡ false =
@@ -395,14 +395,14 @@ full-does sessions old new q session body before after st is args group synced n
       idle-stands sessions old new q (Submits session body) st idle.0 args group synced numbers
           (consumers ∙ cond-false (may_hand (numbers_of old.publishers session))
           (know_by (client session) body old.consumers) old.consumers full) seats untold,
-      shows-of old (WindowFull session ∷ []) (said q (Submits session body)) before after idle.1 said',
+      shows-of (WindowFull session ∷ []) (said q (Submits session body)) before after idle.1 said',
     )
 
 -- a session that has ended is told so
-pub ended-does : (sessions : Standings) (old new : ClusterQueue) (q : Queue) (session : ℕ) (before after : Outcome)
-    → Stands sessions old q → new ≡ old → after ≡ show_all old.label (HasEnded session ∷ []) before
+pub ended-does : (sessions : Standings) (old new : ClusterQueue) (q : Queue) (session : ℕ) (before after : List Shown)
+    → Stands sessions old q → new ≡ old → after ≡ before ++ (HasEnded session ∷ [])
     → Stands sessions new (happens q (TellsEnded session))
-    × Shows old (said q (TellsEnded session)) before after
+    × (after ≡ before ++ said q (TellsEnded session))
 ended-does sessions old new q session before after st same said' = (
   subst (λ (d : ClusterQueue). Stands sessions d (happens q (TellsEnded session))) (sym same)
       (idle-stands sessions old old q (TellsEnded session) st
@@ -413,14 +413,14 @@ ended-does sessions old new q session before after st same said' = (
         takers = record { seats = refl; untold = waits-nothing q.untold q.seats };
         synced_is = refl;
       }) refl refl refl refl refl refl refl),
-  shows-of old (HasEnded session ∷ []) (said q (TellsEnded session)) before after refl said',
+  shows-of (HasEnded session ∷ []) (said q (TellsEnded session)) before after refl said',
 )
 
 -- and one whose command ends what wasn't handed out
-pub untaken-does : (sessions : Standings) (old new : ClusterQueue) (q : Queue) (session id : ℕ) (before after : Outcome)
-    → Stands sessions old q → new ≡ old → after ≡ show_all old.label (NotTaken session id ∷ []) before
+pub untaken-does : (sessions : Standings) (old new : ClusterQueue) (q : Queue) (session id : ℕ) (before after : List Shown)
+    → Stands sessions old q → new ≡ old → after ≡ before ++ (NotTaken session id ∷ [])
     → Stands sessions new (happens q (TellsNotTaken session id))
-    × Shows old (said q (TellsNotTaken session id)) before after
+    × (after ≡ before ++ said q (TellsNotTaken session id))
 untaken-does sessions old new q session id before after st same said' = (
   subst (λ (d : ClusterQueue). Stands sessions d (happens q (TellsNotTaken session id))) (sym same)
       (idle-stands sessions old old q (TellsNotTaken session id) st
@@ -431,18 +431,18 @@ untaken-does sessions old new q session id before after st same said' = (
         takers = record { seats = refl; untold = waits-nothing q.untold q.seats };
         synced_is = refl;
       }) refl refl refl refl refl refl refl),
-  shows-of old (NotTaken session id ∷ []) (said q (TellsNotTaken session id)) before after refl said',
+  shows-of (NotTaken session id ∷ []) (said q (TellsNotTaken session id)) before after refl said',
 )
 
 pub down-does : (sessions : Standings) (old new : ClusterQueue) (q : Queue) (session : ℕ) (command : Command)
-    (o : Option NodeId) (before after : Outcome) → Stands sessions old q
+    (o : Option NodeId) (before after : List Shown) → Stands sessions old q
     → is_used (numbers_of old.publishers session) ≡ true → command ≡ commands.Down (client session)
     → o ≡ leader_of own_log old.group → Makes (submit_to (number_of o) command) old.group new.group
     → new.args ≡ old.args → new.synced ≡ old.synced → new.publishers ≡ old.publishers → new.consumers ≡ old.consumers
     → new.seats ≡ old.seats → new.untold ≡ old.untold
-    → after ≡ show_all old.label (said_of (is_some o) session (command ∷ [])) before
+    → after ≡ before ++ (said_of (is_some o) session (command ∷ []))
     → Stands sessions new (happens q (Downs session))
-    × Shows old (said q (Downs session)) before after
+    × (after ≡ before ++ said q (Downs session))
 down-does sessions old new q session command o before after st used is lead makes args synced publishers consumers
     seats untold said' =
     offering-does sessions old new q (Downs session) session (command ∷ []) o before after st
@@ -451,26 +451,26 @@ down-does sessions old new q session command o before after st used is lead make
     (st.clients ∙ ap (λ (p : _). clients_of sessions (numbers_of p)) (sym publishers))
     (st.consumers ∙ sym consumers) seats untold said'
 
-pub unused-does : (sessions : Standings) (old new : ClusterQueue) (q : Queue) (session : ℕ) (before after : Outcome)
-    → Stands sessions old q → is_used (numbers_of old.publishers session) ≡ false → new ≡ old → after ≡ before
+pub unused-does : (sessions : Standings) (old new : ClusterQueue) (q : Queue) (session : ℕ) (before after : List Shown)
+    → Stands sessions old q → is_used (numbers_of old.publishers session) ≡ false → new ≡ old → after ≡ before ++ []
     → Stands sessions new (happens q (Downs session))
-    × Shows old (said q (Downs session)) before after
+    × (after ≡ before ++ said q (Downs session))
 unused-does sessions old new q session before after st unused same text =
     let idle = unused-idle sessions old q session st unused in (
       subst (λ (d : ClusterQueue). Stands sessions d (happens q (Downs session))) (sym same)
           (idle-stands sessions old old q (Downs session) st idle.0 refl refl refl refl refl refl refl),
-      shows-of old [] (said q (Downs session)) before after idle.1 text,
+      shows-of [] (said q (Downs session)) before after idle.1 text,
     )
 
 pub resend-does : (sessions : Standings) (old new : ClusterQueue) (q : Queue) (session : ℕ) (given : List Command)
-    (o : Option NodeId) (before after : Outcome) → Stands sessions old q
+    (o : Option NodeId) (before after : List Shown) → Stands sessions old q
     → given ≡ open_commands (numbers_of old.publishers session) → o ≡ leader_of own_log old.group
     → Makes (submits (number_of o) given) old.group new.group → new.args ≡ old.args → new.synced ≡ old.synced
     → new.publishers ≡ old.publishers → new.consumers ≡ old.consumers
     → new.seats ≡ old.seats → new.untold ≡ old.untold
-    → after ≡ show_all old.label (said_of (is_some o) session given) before
+    → after ≡ before ++ (said_of (is_some o) session given)
     → Stands sessions new (happens q (Resends session))
-    × Shows old (said q (Resends session)) before after
+    × (after ≡ before ++ said q (Resends session))
 resend-does sessions old new q session given o before after st is lead makes args synced publishers consumers seats
     untold said' =
     offering-does sessions old new q (Resends session) session given o before after st

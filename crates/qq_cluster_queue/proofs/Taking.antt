@@ -221,7 +221,7 @@ pub record Handing (k count taken : ℕ) (old new : ClusterQueue) (before later 
 pub handing-none : (k count : ℕ) (d : ClusterQueue) (ops : List Op) → AreSound d.group → Handing k count 0 d d ops ops
 handing-none k count d ops sound = record {
   sound = sound;
-  same = record { label_is = refl; args_is = refl; nodes_is = refl };
+  same = record { name_is = refl; args_is = refl; nodes_is = refl };
   only = refl;
   may = λ all. all;
   made = λ args g it all. record {
@@ -256,7 +256,7 @@ pub handing-more : (k count taken : ℕ) (old mid new : ClusterQueue) (before mi
 handing-more k count taken old mid new before middle later lt h sound same only may takes = record {
   sound = sound;
   same = record {
-    label_is = same.label_is ∙ h.same.label_is;
+    name_is = same.name_is ∙ h.same.name_is;
     args_is = same.args_is ∙ h.same.args_is;
     nodes_is = same.nodes_is ∙ h.same.nodes_is;
   };

@@ -1,17 +1,15 @@
 -- What waits for a verdict, and what is told at once.
-use Rattle.std.proofs.Common.{◌≡◌, ◌<◌, ◌≤◌, ℕ, suc, Bool, true, false, cond, List, [], ◌∷◌, ◌++◌, length, map, Option, Some, None, refl, sym, ap, ◌∙◌, arith}
+use Rattle.std.proofs.Common.{◌≡◌, ◌<◌, ◌≤◌, ℕ, suc, Bool, true, false, cond, List, [], ◌∷◌, ◌++◌, length, map, Option, Some, None, refl, sym, ap, append_assoc, ◌∙◌, arith}
 use Rattle.std.specs.Prelude.{IfNone, IfSome, find, not, option_to_list}
 use Rattle.std.proofs.lemmas.Bool.{cond-true, cond-false}
-use Rattle.qq_cluster.specs.Outcome.{Outcome}
 use Rattle.qq_cluster.specs.Taking.{delivered, dropped_by, has_taker, told_of, told_then, waiting_of, waiting_then}
-use Rattle.qq_session.specs.Shown.{Delivered, Dropped}
+use Rattle.qq_session.specs.declared.shown.Shown.{Shown}
+use Rattle.qq_session.specs.declared.shown.Shown.TheVariants.{Delivered, Dropped}
 use Rattle.qq_taker.specs.Seats.{leaves, leaving, staying, without_first}
 use Rattle.qq_taker.specs.declared.handed.Handed.{Handed}
 use Rattle.qq_taker.specs.declared.seats.Leaving.{Leaving}
 use Rattle.qq_taker.specs.declared.seats.Seat.{Seat}
-use Rattle.qq_cluster_queue.specs.Telling.{show, show_all}
 use Rattle.qq_cluster_queue.specs.Waiting.{is_plain}
-use Rattle.qq_cluster_queue.specs.declared.label.Label.{Label}
 
 -- ---- takers that are dropped
 
@@ -81,15 +79,16 @@ none-stays whom (x ∷ seats) found = by (leaves whom x) (none-stays whom seats)
     by false rest e = ap (λ (l : List Seat). x ∷ l) (rest e)
 
 -- one is dropped, and then the others
-pub dropped-then : (label : Label) (whom : Leaving) (seats : List Seat) (seat : Seat) (old new : Outcome)
+pub dropped-then : (whom : Leaving) (seats : List Seat) (seat : Seat) (old new : List Shown)
     → Some seat ≡ find (leaves whom) seats
-    → new ≡ show label (Dropped seat.consumer.session.number seat.number) old
-    → show_all label (dropped_by (Some whom) (without_first whom seats)) new
-    ≡ show_all label (dropped_by (Some whom) seats) old
-dropped-then label whom seats seat old new found said =
-    ap (show_all label (dropped_by (Some whom) (without_first whom seats))) said
-    ∙ ap (λ (l : List Seat). show_all label
-    (map (λ (s : Seat). Dropped s.consumer.session.number s.number) l) old) (sym (leaving-first whom seats seat found))
+    → new ≡ old ++ Dropped seat.consumer.session.number seat.number ∷ []
+    → new ++ dropped_by (Some whom) (without_first whom seats) ≡ old ++ dropped_by (Some whom) seats
+dropped-then whom seats seat old new found said =
+    let rest : List Shown = dropped_by (Some whom) (without_first whom seats) in
+    ap (λ (l : List Shown). l ++ rest) said
+    ∙ append_assoc old (Dropped seat.consumer.session.number seat.number ∷ []) rest
+    ∙ ap (λ (l : List Seat). old ++ map (λ (s : Seat). Dropped s.consumer.session.number s.number) l)
+    (sym (leaving-first whom seats seat found))
 
 -- ---- what is told
 
@@ -109,12 +108,13 @@ taker-first seats h more there = (
   cond-true (has_taker seats h) (h ∷ more) (waiting_of seats more) there,
 )
 
-pub delivered-then : (label : Label) (seats : List Seat) (h : Handed) (all more : List Handed) (old new : Outcome)
-    → all ≡ h ∷ more → has_taker seats h ≡ false → new ≡ show label (Delivered h.consumer h.delivery) old
-    → show_all label (delivered (told_of seats more)) new ≡ show_all label (delivered (told_of seats all)) old
-delivered-then label seats h all more old new is plain said =
-    ap (show_all label (delivered (told_of seats more))) said
-    ∙ ap (λ (l : List Handed). show_all label (delivered l) old)
+pub delivered-then : (seats : List Seat) (h : Handed) (all more : List Handed) (old new : List Shown)
+    → all ≡ h ∷ more → has_taker seats h ≡ false → new ≡ old ++ Delivered h.consumer h.delivery ∷ []
+    → new ++ delivered (told_of seats more) ≡ old ++ delivered (told_of seats all)
+delivered-then seats h all more old new is plain said =
+    ap (λ (l : List Shown). l ++ delivered (told_of seats more)) said
+    ∙ append_assoc old (Delivered h.consumer h.delivery ∷ []) (delivered (told_of seats more))
+    ∙ ap (λ (l : List Handed). old ++ delivered l)
     (sym (ap (told_of seats) is ∙ (plain-first seats h more plain).0))
 
 -- something waited already

@@ -1,6 +1,5 @@
 -- One queue of a cluster as its code keeps it, and what each call does.
 use Rattle.std.specs.Prelude.{◌≡◌, ◌⊎◌, ℕ, List, [], ◌∷◌, ◌++◌, Bool, Option, Some, None, is_some, slice_get, unwrap_or}
-use Rattle.std.specs.List.{flat_map}
 use Rattle.qq_base.specs.declared.ids.NodeId.{NodeId}
 use Rattle.qq_base.specs.declared.memory.Memory.{Memory}
 use Rattle.qq_base.specs.declared.memory.Memory.TheVariants.{Want}
@@ -16,10 +15,8 @@ use Rattle.qq_group.specs.Reads.{leader_of}
 use Rattle.qq_group.specs.declared.event.Event.TheVariants.{Submit}
 use Rattle.qq_session.specs.Publishing.{Numbers, HasHandCause, next_command, open_commands}
 use Rattle.qq_session.specs.declared.publishing.HandFault.TheVariants as faults
-use Rattle.qq_cluster.specs.Outcome.{Outcome, sees_all}
 use Rattle.qq_cluster.specs.Queue.{Queue, Event, begin, happens, said, submits}
-use Rattle.qq_cluster.specs.Texts.{shown_text_as}
-use Rattle.qq_session.specs.Shown.{Shown}
+use Rattle.qq_session.specs.declared.shown.Shown.{Shown}
 use Rattle.qq_cluster_queue.specs.Members.{AreSound, Member, Members, IsGroupOf, IsStepCaused, Makes, number_of, own_log}
 use Rattle.qq_cluster_queue.specs.Sessions.{Standings, clients_of, numbers_of, present}
 use Rattle.qq_cluster_queue.specs.declared.cluster_queue.ClusterQueue.{ClusterQueue}
@@ -40,28 +37,19 @@ pub record Stands (sessions : Standings) (d : ClusterQueue) (q : Queue) : Type 0
 
 -- whatever happens to it, it is the same queue
 pub record IsSameQueue (old new : ClusterQueue) : Type 0 where
-  pub label_is : new.label ≡ old.label
+  pub name_is : new.name ≡ old.name
   pub args_is : new.args ≡ old.args
   pub nodes_is : new.group.nodes ≡ old.group.nodes
 
 -- ---- what a call does
 
-abbrev pub text_as : ClusterQueue → List Shown → List ℕ
-text_as d shown = flat_map (shown_text_as d.label.first d.label.name) shown
-
--- what is shown comes out of it: a text has grown by that, and the takers have seen it
-pub record Shows (d : ClusterQueue) (shown : List Shown) (before after : Outcome) : Type 0 where
-  pub text : after.text ≡ before.text ++ text_as d shown
-  pub takers : after.takers ≡ sees_all d.label.queue.0 shown before.takers
-
--- whichever queue it stood for, it stands for what an event makes of that, and shows what that shows
-abbrev pub Does : Event → Standings → ClusterQueue → ClusterQueue → Outcome → Outcome → Type 0
+-- whichever queue it stood for, it stands for what an event makes of that, and what that shows goes after what was shown
+abbrev pub Does : Event → Standings → ClusterQueue → ClusterQueue → List Shown → List Shown → Type 0
 Does event sessions old new before after =
-    (q : Queue) → Stands sessions old q
-    → Stands sessions new (happens q event) × Shows old (said q event) before after
+    (q : Queue) → Stands sessions old q → Stands sessions new (happens q event) × (after ≡ before ++ said q event)
 
 -- the same however the sessions stand
-abbrev pub DoesAlways : Event → ClusterQueue → ClusterQueue → Outcome → Outcome → Type 0
+abbrev pub DoesAlways : Event → ClusterQueue → ClusterQueue → List Shown → List Shown → Type 0
 DoesAlways event old new before after = (sessions : Standings) → Does event sessions old new before after
 
 -- the same, and nothing is shown

@@ -2,10 +2,10 @@ pub mod Range
 pub mod Sessions
 pub mod Tally
 pub mod Members
-pub mod Lines
 pub mod Telling
 pub mod Waiting
 pub mod ClusterQueue
+pub mod Events
 pub mod Judging
 pub mod Agreeing
 pub mod Handing

@@ -1,25 +1,43 @@
--- What comes out of a queue: a text grows by what is shown, and takers see it.
-use Rattle.std.specs.Prelude.{ℕ, List, [], ◌∷◌, ◌++◌, Option, Some, None}
-use Rattle.qq_cluster.specs.Outcome.{Outcome, sees}
-use Rattle.qq_cluster.specs.Texts.{shown_text_as}
-use Rattle.qq_session.specs.Shown.{Shown, Delivered, Taken}
-use Rattle.qq_taker.specs.declared.handed.Handed.{Handed}
-use Rattle.qq_taker.specs.declared.taker.Verdict.{Verdict}
-use Rattle.qq_cluster_queue.specs.declared.label.Label.{Label}
+-- What comes of what a member answers, and of what is fetched.
+use Rattle.std.specs.Prelude.{◌≡◌, List, ◌++◌}
+use Rattle.qq_entry.specs.declared.audit.Effect.{Effect}
+use Rattle.qq_raft.specs.declared.row.AppliedRow.{AppliedRow}
+use Rattle.qq_session.specs.Clients.{Clients, hear_all, printed}
+use Rattle.qq_session.specs.declared.shown.Shown.{Shown}
+use Rattle.qq_cluster.specs.Delivering.{come_all, hand_all}
+use Rattle.qq_cluster.specs.Taking.{answers, delivered, seated, told_then, waiting_then}
+use Rattle.qq_cluster_queue.specs.Members.{audit_rows_of, effects_in}
+use Rattle.qq_cluster_queue.specs.Sessions.{Standings, clients_of, numbers_of}
+use Rattle.qq_cluster_queue.specs.declared.cluster_queue.ClusterQueue.{ClusterQueue}
 
-abbrev pub show : Label → Shown → Outcome → Outcome
-show label shown o =
-    record {
-      text = o.text ++ shown_text_as label.first label.name shown;
-      takers = sees label.queue.0 shown o.takers;
-    }
+-- the clients of a queue, where the sessions stand so
+abbrev pub clients_in : Standings → ClusterQueue → Clients
+clients_in sessions d = clients_of sessions (numbers_of d.publishers)
 
--- one after the other
-abbrev pub show_all : Label → List Shown → Outcome → Outcome
-show_all label [] o = o
-show_all label (shown ∷ more) o = show_all label more (show label shown o)
+-- Effects have come to the consumers, and what is handed out then was shown, up to the first delivery for a taker.
+pub record HasHanded (own : Clients) (effects : List Effect) (old new : ClusterQueue) (before after : List Shown) : Type 0
+  where
+    pub came : new.consumers ≡ come_all own effects old.consumers
+    pub untold : new.untold ≡ waiting_then old.untold old.seats (hand_all own effects old.consumers)
+    pub said : after ≡ before
+        ++ delivered (told_then old.untold old.seats (hand_all own effects old.consumers))
+    pub rest : new ≡ record old { consumers = new.consumers; untold = new.untold }
 
--- a delivery with the verdict of its consumer's taker; where the consumer has none it is told
-abbrev pub asked : Option ℕ → Handed → Verdict → Shown
-asked None h verdict = Delivered h.consumer h.delivery
-asked (Some number) h verdict = Taken number h.consumer h.delivery verdict
+-- The clients have heard these rows of a member: the answers were shown, each with the takers that are dropped at it, and
+-- then what is handed out, up to the first delivery for a taker.
+pub record HasTold (sessions : Standings) (rows : List AppliedRow) (old new : ClusterQueue) (before after : List Shown)
+    : Type 0 where
+  pub heard : clients_in sessions new ≡ hear_all (audit_rows_of rows) (clients_in sessions old)
+  pub came : new.consumers ≡ come_all (clients_in sessions old) (effects_in rows) old.consumers
+  pub seats : new.seats ≡ seated old.seats (printed (audit_rows_of rows) (clients_in sessions old))
+  pub untold : new.untold
+      ≡ waiting_then old.untold new.seats (hand_all (clients_in sessions old) (effects_in rows) old.consumers)
+  pub said : after ≡ before ++ (answers old.seats (printed (audit_rows_of rows) (clients_in sessions old))
+      ++ delivered (told_then old.untold new.seats
+      (hand_all (clients_in sessions old) (effects_in rows) old.consumers)))
+  pub rest : new ≡ record old {
+    publishers = new.publishers;
+    consumers = new.consumers;
+    seats = new.seats;
+    untold = new.untold;
+  }

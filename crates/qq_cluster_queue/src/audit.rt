@@ -98,14 +98,14 @@ impl ClusterQueue {
         requires applied { queue_applied machine.old ≡ 0 }
 
         ensures ok { OnOk result (OfItsQueue self.now (λ q.
-            out.new.items ≡ out.old.items ++ audit_text self.now.label.name 0 (audit_rows q))) }
+            out.new.items ≡ out.old.items ++ audit_text self.now.name 0 (audit_rows q))) }
         ensures err { OnErr result (IsFront out.old.items out.new.items) }
         ensures cause { IfErr result (λ e. SpentOnlyWhere e NUMBER_END
             (stays_within (empty_queue self.now.args) self.now.group.audit.items ≡ false)) }
     {
         let entries = self.group.audit();
         let count = entries.len() as u64;
-        if let Err(cause) = audit_head_text(alloc, &self.label.name, Index(0), count, out) {
+        if let Err(cause) = audit_head_text(alloc, &self.name, Index(0), count, out) {
             return Err(cause);
         }
         if let Err(cause) = push_rows(alloc, machine, entries, out) {
@@ -119,7 +119,7 @@ impl ClusterQueue {
     /// After an error `out` begins with what it had.
     pub fn audit_text(&self, alloc: Global, out: &mut Vec<u8>) -> Result<(), Memory>
         ensures ok { OnOk result (OfItsQueue self.now (λ q.
-            out.new.items ≡ out.old.items ++ audit_text self.now.label.name 0 (audit_rows q))) }
+            out.new.items ≡ out.old.items ++ audit_text self.now.name 0 (audit_rows q))) }
         ensures err { OnErr result (IsFront out.old.items out.new.items) }
         ensures cause { IfErr result (λ e. SpentOnlyWhere e NUMBER_END
             (stays_within (empty_queue self.now.args) self.now.group.audit.items ≡ false)) }

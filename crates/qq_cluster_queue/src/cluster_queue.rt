@@ -1,10 +1,10 @@
 //! One queue of a cluster.
 use crate::counts::Counts;
-use crate::label::Label;
 use crate::moves::Members;
 use crate::publishers::Publishers;
 use crate::untold::Untold;
 use crate::votes::Votes;
+use qq_base::Text;
 use qq_consuming::Consumers;
 use qq_entry::QueueArgs;
 use qq_taker::Seats;
@@ -13,7 +13,8 @@ use qq_taker::Seats;
 /// takers, and how much of each node's log is synced of it.
 #[derive(Drop)]
 pub struct ClusterQueue {
-    pub(crate) label: Label,
+    /// As lines name it.
+    pub name: Text,
     pub(crate) args: QueueArgs,
     pub(crate) publishers: Publishers,
     /// Those that the clients know, in the order of their subscriptions.

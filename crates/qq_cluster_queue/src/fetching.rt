@@ -9,9 +9,7 @@ ghost use Rattle.qq_cluster_queue.specs.Members.{AreSound};
 ghost use Rattle.qq_cluster_queue.specs.Sessions.{standings};
 
 use crate::cluster_queue::ClusterQueue;
-use crate::handing_out::tell_effects;
 use crate::sessions::Sessions;
-use crate::told::Told;
 use qq_base::{ConsumerId, Memory, SessionId};
 use qq_consuming::{Consumers, Gap};
 use qq_entry::{Delivery, Effect};
@@ -21,7 +19,7 @@ use qq_machine::Machine;
 use qq_parts::{deliveries_end, parts_tell_the_queue};
 use qq_raft_model::what_a_group_committed_stays;
 use qq_raft_queues::MachineQueue;
-use qq_taker::Taker;
+use qq_session::Shown;
 use std::alloc::Global;
 use std::collections::VecDeque;
 
@@ -90,15 +88,14 @@ fn fetch_all(
 }
 
 impl ClusterQueue {
-    /// A session, numbered from 1, asks the leader for what is out with its consumers and hasn't come to them, and
-    /// what is handed out then is told, up to the first delivery for a taker. Without a leader nothing happens. The
-    /// only error is `Memory::Want`, out of memory, after which the text begins with what it had.
-    pub fn fetch<T: Taker>(
+    // A session, numbered from 1, asks the leader for what is out with its consumers and hasn't come to them, and what
+    // is handed out then is shown, up to the first delivery for a taker. Without a leader nothing happens.
+    pub(crate) fn fetch(
         &mut self,
         alloc: Global,
         sessions: &Sessions,
         session: u64,
-        told: &mut Told<T>,
+        shown: &mut Vec<Shown>,
     ) -> Result<(), Memory>
         requires { AreSound self.old.group }
 
@@ -106,8 +103,8 @@ impl ClusterQueue {
         ensures same { IsSameQueue self.old self.new }
         ensures group { self.new.group ≡ self.old.group }
         ensures ok { OnOk result (Does (Fetches session) (standings sessions.now) self.old
-            self.new told.old told.new) }
-        ensures err { OnErr result (IsFront told.old.text told.new.text) }
+            self.new shown.old.items shown.new.items) }
+        ensures front { OnErr result (IsFront shown.old.items shown.new.items) }
         ensures want { IsOkUnless result Memory.Want }
     {
         what_is_committed_stays_in_the_audit::<MachineQueue, Log>();
@@ -123,22 +120,8 @@ impl ClusterQueue {
         };
         let machine = queue.machine();
         let id = SessionId::client(session);
-        let effects = match fetch_all(alloc, machine, id, &self.consumers) {
-            Ok(effects) => effects,
-            Err(cause) => return Err(cause),
-        };
-        if let Err(cause) = tell_effects(
-            alloc,
-            sessions,
-            &mut self.consumers,
-            &self.seats,
-            &mut self.untold,
-            effects.as_slice(),
-            &self.label,
-            told,
-        ) {
-            return Err(cause);
-        }
+        let effects = fetch_all(alloc, machine, id, &self.consumers)?;
+        self.hand_out(alloc, sessions, effects.as_slice(), shown)?;
         Ok(())
     }
 }

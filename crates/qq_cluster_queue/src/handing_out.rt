@@ -1,24 +1,25 @@
 //! What comes to the consumers of the queue's clients, and what is handed out then.
-ghost use Rattle.std.specs.Prelude.{◌≡◌, ◌++◌, List, length, OnOk, OnErr, IsOkUnless};
+ghost use Rattle.std.specs.Prelude.{◌≡◌, ◌++◌, ◌∷◌, [], List, length, OnOk, OnErr, IsOkUnless};
 ghost use Rattle.qq_base.specs.Fronts.{IsFront};
 ghost use Rattle.qq_entry.specs.declared.audit.Effect.TheVariants.{Deliver};
 ghost use Rattle.qq_consuming.specs.Consumers.{come, taken};
 ghost use Rattle.qq_cluster.specs.Delivering.{come_all, comes, hand_all, hands};
 ghost use Rattle.qq_cluster.specs.Taking.{delivered, told_of, told_then, waiting_of, waiting_then};
+ghost use Rattle.qq_session.specs.declared.shown.Shown.TheVariants.{Delivered};
 ghost use Rattle.qq_taker.specs.declared.handed.Handed.{Handed};
 ghost use Rattle.qq_cluster_queue.specs.Members.{effects_in};
 ghost use Rattle.qq_cluster_queue.specs.Sessions.{clients_of, no_numbers, standings};
-ghost use Rattle.qq_cluster_queue.specs.Telling.{show_all};
+ghost use Rattle.qq_cluster_queue.specs.Telling.{HasHanded};
 
-use crate::label::Label;
+use crate::cluster_queue::ClusterQueue;
 use crate::sessions::Sessions;
-use crate::told::Told;
 use crate::untold::Untold;
 use qq_base::{ConsumerId, Duplicate, Memory};
 use qq_consuming::Consumers;
 use qq_entry::{Delivery, Effect};
 use qq_raft::AppliedRow;
-use qq_taker::{Seats, Taker};
+use qq_session::Shown;
+use qq_taker::{Handed, Seats};
 use std::alloc::Global;
 
 // A delivery comes to a consumer, and goes behind what is handed out then.
@@ -146,82 +147,81 @@ pub fn deliver_rows(
     Ok(())
 }
 
-/// What waits is told, up to the first delivery whose consumer has a taker. After an error the text begins with what
-/// it had.
-pub fn release<T: Taker>(
-    alloc: Global,
-    seats: &Seats,
-    untold: &mut Untold,
-    label: &Label,
-    told: &mut Told<T>,
-) -> Result<(), Memory>
+// A delivery to a consumer without a taker is shown.
+fn show_delivery(handed: Handed, shown: &mut Vec<Shown>) -> Result<(), Memory>
+    ensures ok { OnOk result (shown.new.items
+        ≡ shown.old.items ++ Delivered handed.consumer handed.delivery ∷ []) }
+    ensures err { OnErr result (shown.new.items ≡ shown.old.items) }
+    ensures want { IsOkUnless result Memory.Want }
+{
+    shown.push(Shown::Delivered {
+        consumer: handed.consumer,
+        delivery: handed.delivery,
+    })?;
+    Ok(())
+}
+
+/// What waits is shown, up to the first delivery whose consumer has a taker.
+pub fn release(seats: &Seats, untold: &mut Untold, shown: &mut Vec<Shown>) -> Result<(), Memory>
     ensures untold { OnOk result (untold.new ≡ waiting_of seats.now untold.old) }
-    ensures said { OnOk result (told.new
-        ≡ show_all label.now (delivered (told_of seats.now untold.old)) told.old) }
-    ensures err { OnErr result (IsFront told.old.text told.new.text) }
+    ensures said { OnOk result
+        (shown.new.items ≡ shown.old.items ++ delivered (told_of seats.now untold.old)) }
+    ensures front { OnErr result (IsFront shown.old.items shown.new.items) }
     ensures want { IsOkUnless result Memory.Want }
 {
     'plain: while let Some(handed) = untold.pop_plain(seats) {
-        if let Err(cause) = told.delivered(alloc, label, &handed) {
-            return Err(cause);
-        }
+        show_delivery(handed, shown)?;
     }
     Ok(())
 }
 
-/// What was handed out is told, unless it waits behind these many. After an error the text begins with what it had.
-pub fn release_behind<T: Taker>(
-    alloc: Global,
+/// What was handed out is shown, unless it waits behind these many.
+pub fn release_behind(
     waited: usize,
     seats: &Seats,
     untold: &mut Untold,
-    label: &Label,
-    told: &mut Told<T>,
+    shown: &mut Vec<Shown>,
 ) -> Result<(), Memory>
     ensures ok { OnOk result ((before more : List Handed) → waited ≡ length before →
         untold.old ≡ before ++ more → (untold.new ≡ waiting_then before seats.now more)
-        × (told.new ≡ show_all label.now (delivered (told_then before seats.now more)) told.old)) }
-    ensures err { OnErr result (IsFront told.old.text told.new.text) }
+        × (shown.new.items ≡ shown.old.items ++ delivered (told_then before seats.now more))) }
+    ensures front { OnErr result (IsFront shown.old.items shown.new.items) }
     ensures want { IsOkUnless result Memory.Want }
 {
     if waited > 0 {
         return Ok(());
     }
-    if let Err(cause) = release(alloc, seats, untold, label, told) {
-        return Err(cause);
-    }
+    release(seats, untold, shown)?;
     Ok(())
 }
 
-/// What was done comes to the sessions, one after the other, and what is handed out then is told, up to the first
-/// delivery for a taker. After an error the text begins with what it had.
-pub fn tell_effects<T: Taker>(
-    alloc: Global,
-    sessions: &Sessions,
-    consumers: &mut Consumers,
-    seats: &Seats,
-    untold: &mut Untold,
-    effects: &[Effect],
-    label: &Label,
-    told: &mut Told<T>,
-) -> Result<(), Memory>
-    ensures came { OnOk result (consumers.new
-        ≡ come_all (clients_of (standings sessions.now) no_numbers) effects.now consumers.old) }
-    ensures untold { OnOk result (untold.new ≡ waiting_then untold.old seats.now
-        (hand_all (clients_of (standings sessions.now) no_numbers) effects.now consumers.old)) }
-    ensures said { OnOk result (told.new ≡ show_all label.now
-        (delivered (told_then untold.old seats.now
-        (hand_all (clients_of (standings sessions.now) no_numbers) effects.now consumers.old)))
-        told.old) }
-    ensures err { OnErr result (IsFront told.old.text told.new.text) }
-    ensures want { IsOkUnless result Memory.Want }
-{
-    let waited = untold.count();
-    if let Err(cause) = deliver_each(alloc, sessions, consumers, effects, untold) {
-        return Err(cause);
+impl ClusterQueue {
+    // What was done comes to the sessions, one after the other, and what is handed out then is shown, up to the first
+    // delivery for a taker.
+    pub(crate) fn hand_out(
+        &mut self,
+        alloc: Global,
+        sessions: &Sessions,
+        effects: &[Effect],
+        shown: &mut Vec<Shown>,
+    ) -> Result<(), Memory>
+        ensures ok { OnOk result (HasHanded (clients_of (standings sessions.now) no_numbers)
+            effects.now self.old self.new shown.old.items shown.new.items) }
+        ensures group { self.new.group ≡ self.old.group }
+        ensures name { self.new.name ≡ self.old.name }
+        ensures args { self.new.args ≡ self.old.args }
+        ensures front { OnErr result (IsFront shown.old.items shown.new.items) }
+        ensures want { IsOkUnless result Memory.Want }
+    {
+        let waited = self.untold.count();
+        deliver_each(
+            alloc,
+            sessions,
+            &mut self.consumers,
+            effects,
+            &mut self.untold,
+        )?;
+        release_behind(waited, &self.seats, &mut self.untold, shown)?;
+        Ok(())
     }
-    if let Err(cause) = release_behind(alloc, waited, seats, untold, label, told) {
-        return Err(cause);
-    }
-    Ok(())
 }

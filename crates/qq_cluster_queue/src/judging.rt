@@ -1,45 +1,21 @@
 //! The takers of the queue's consumers, and their verdicts.
-ghost use Rattle.std.specs.Prelude.{◌≡◌, ◌<◌, ◌∷◌, [], length, IfOk, IfSome, OnOk, OnErr, IsOkUnless};
+ghost use Rattle.std.specs.Prelude.{◌≡◌, ◌<◌, ◌∷◌, [], length, slice_get, IfOk, IfSome, OnOk, OnErr, IsOkUnless};
+ghost use Rattle.std.specs.Option.{option_copied};
 ghost use Rattle.qq_base.specs.Fronts.{IsFront};
-ghost use Rattle.qq_cluster.specs.Queue.{Attaches};
+ghost use Rattle.qq_cluster.specs.Queue.{Attaches, Judges};
 ghost use Rattle.qq_taker.specs.Seats.{taker_of};
 ghost use Rattle.qq_cluster_queue.specs.ClusterQueue.{DoesAlways, IsSameQueue, OfItsQueue};
-ghost use Rattle.qq_cluster_queue.specs.Judging.{HasJudged, MayClaim, claim_of, may_claim};
+ghost use Rattle.qq_cluster_queue.specs.Judging.{MayClaim, claim_first, claim_of, judged_as, may_claim};
 ghost use Rattle.qq_cluster_queue.specs.Members.{AreSound};
-ghost use Rattle.qq_cluster_queue.specs.Telling.{asked, show};
 
 use crate::claim::Claim;
 use crate::cluster_queue::ClusterQueue;
 use crate::handing_out::release;
-use crate::label::Label;
-use crate::told::Told;
 use qq_base::{ConsumerId, Ids, Items, Memory, SessionId};
 use qq_entry::Unstamped;
-use qq_taker::{Handed, Seats, Taker, Verdict};
+use qq_session::Shown;
+use qq_taker::{Handed, Verdict};
 use std::alloc::Global;
-
-// The first delivery that waits is offered to its consumer's taker, and the verdict is told.
-fn ask<T: Taker>(
-    alloc: Global,
-    seats: &Seats,
-    handed: &Handed,
-    label: &Label,
-    told: &mut Told<T>,
-) -> Result<Verdict, Memory>
-    ensures ok { IfOk result (λ verdict. told.new ≡ show label.now
-        (asked (taker_of handed.now.consumer seats.now) handed.now verdict) told.old) }
-    ensures err { OnErr result (told.new.text ≡ told.old.text) }
-    ensures want { IsOkUnless result Memory.Want }
-{
-    let Some(number) = seats.taker_of(handed.consumer) else {
-        // Between events the first one's consumer has a taker.
-        if let Err(cause) = told.delivered(alloc, label, handed) {
-            return Err(cause);
-        }
-        return Ok(Verdict::Keep);
-    };
-    told.taken(alloc, label, number, handed)
-}
 
 // The ids of one delivery.
 fn one_id(alloc: Global, id: u64) -> Result<Ids, Memory>
@@ -86,17 +62,32 @@ fn claim(handed: &Handed, ids: Ids, verdict: Verdict) -> Option<Claim>
     }
 }
 
+// What is shown of a delivery with the verdict of its consumer's taker of this number. One without a taker is handed
+// out.
+fn judged(taker: Option<u32>, handed: Handed, verdict: Verdict) -> Shown
+    ensures { result ≡ judged_as taker handed verdict }
+{
+    let Handed { consumer, delivery } = handed;
+    match taker {
+        None => Shown::Delivered { consumer, delivery },
+        Some(number) => Shown::Taken {
+            number,
+            consumer,
+            delivery,
+            verdict,
+        },
+    }
+}
+
 impl ClusterQueue {
-    /// The taker of this number is given to the consumer of a session, numbered from 1, and of a tag; where the
-    /// consumer has a taker already that is told. The only error is `Memory::Want`, out of memory, after which the
-    /// text is as it was.
-    pub fn attach<T: Taker>(
+    // The taker of this number is given to the consumer of a session and of a tag; where the consumer has a taker
+    // already that is shown.
+    pub(crate) fn attach(
         &mut self,
-        alloc: Global,
         session: u64,
         tag: u32,
         number: u32,
-        told: &mut Told<T>,
+        shown: &mut Vec<Shown>,
     ) -> Result<(), Memory>
         requires { AreSound self.old.group }
 
@@ -104,24 +95,20 @@ impl ClusterQueue {
         ensures same { IsSameQueue self.old self.new }
         ensures group { self.new.group ≡ self.old.group }
         ensures ok { OnOk result (DoesAlways (Attaches session tag number) self.old self.new
-            told.old told.new) }
-        ensures err { OnErr result (told.new.text ≡ told.old.text) }
+            shown.old.items shown.new.items) }
+        ensures front { OnErr result (IsFront shown.old.items shown.new.items) }
         ensures want { IsOkUnless result Memory.Want }
     {
         let id = ConsumerId {
             session: SessionId::client(session),
             tag,
         };
-        if let Some(other) = self.seats.taker_of(id) {
-            if let Err(cause) = told.busy(alloc, &self.label, session, other) {
-                return Err(cause);
-            }
+        if let Some(number) = self.seats.taker_of(id) {
+            shown.push(Shown::IsBusy { session, number })?;
             return Ok(());
         }
-        if let Err(cause) = self.seats.sit(id, number) {
-            return Err(cause);
-        }
-        told.attached(&self.label, session, number);
+        self.seats.sit(id, number)?;
+        shown.push(Shown::Attached { session, number })?;
         Ok(())
     }
 
@@ -132,24 +119,25 @@ impl ClusterQueue {
         self.untold.count()
     }
 
-    /// The taker of the first delivery that waits is asked, and its verdict is told, and then what waits behind it up
-    /// to the next one for a taker. The answer is the command that the verdict is. None where the delivery stays with
-    /// its consumer, and where nothing waits. The only error is `Memory::Want`: there is no memory, or the taker was
-    /// refused it. Then the text begins with what it had.
-    pub fn judge<T: Taker>(
-        &mut self,
-        alloc: Global,
-        told: &mut Told<T>,
-    ) -> Result<Option<Claim>, Memory>
-        requires { AreSound self.old.group }
+    /// The first delivery that waits for the verdict of its consumer's taker. None where nothing waits.
+    pub fn first_untold(&self) -> Option<&Handed>
+        ensures { option_copied result ≡ slice_get self.now.untold 0 }
+    {
+        self.untold.first()
+    }
 
-        ensures sound { AreSound self.new.group }
-        ensures same { IsSameQueue self.old self.new }
-        ensures group { self.new.group ≡ self.old.group }
-        ensures ok { IfOk result (λ claim.
-            HasJudged self.old.untold self.old self.new told.old told.new claim) }
+    /// The number of a consumer's taker. None exactly where it has none.
+    pub fn taker_of(&self, consumer: ConsumerId) -> Option<u32>
+        ensures { result ≡ taker_of consumer self.now.seats }
+    {
+        self.seats.taker_of(consumer)
+    }
+
+    /// The command that a verdict on the first delivery that waits is for its consumer's session. None where it stays
+    /// with its consumer, and where nothing waits. The only error is `Memory::Want`, out of memory.
+    pub fn claim(&self, alloc: Global, verdict: Verdict) -> Result<Option<Claim>, Memory>
+        ensures ok { IfOk result (λ claim. claim ≡ claim_first verdict self.now.untold) }
         ensures may { IfOk result (λ claim. IfSome claim MayClaim) }
-        ensures err { OnErr result (IsFront told.old.text told.new.text) }
         ensures want { IsOkUnless result Memory.Want }
     {
         let Some(first) = self.untold.first() else {
@@ -160,19 +148,25 @@ impl ClusterQueue {
             // A client's session, its consumers and their deliveries are numbered from 1.
             return Err(Memory::Want);
         }
-        let ids = match one_id(alloc, first.delivery.id) {
-            Ok(ids) => ids,
-            Err(cause) => return Err(cause),
+        let ids = one_id(alloc, first.delivery.id)?;
+        Ok(claim(first, ids, verdict))
+    }
+
+    // The taker of the first delivery that waits has given a verdict on it, and that is shown, and then what waits
+    // behind it up to the next one for a taker. Where nothing waits nothing happens.
+    pub(crate) fn judge(&mut self, verdict: Verdict, shown: &mut Vec<Shown>) -> Result<(), Memory>
+        ensures rest { self.new ≡ record self.old { untold = self.new.untold } }
+        ensures ok { OnOk result (DoesAlways (Judges verdict) self.old self.new
+            shown.old.items shown.new.items) }
+        ensures front { OnErr result (IsFront shown.old.items shown.new.items) }
+        ensures want { IsOkUnless result Memory.Want }
+    {
+        let Some(first) = self.untold.pop() else {
+            return Ok(());
         };
-        let verdict = match ask(alloc, &self.seats, first, &self.label, told) {
-            Ok(verdict) => verdict,
-            Err(cause) => return Err(cause),
-        };
-        let claim = claim(first, ids, verdict);
-        self.untold.skip();
-        match release(alloc, &self.seats, &mut self.untold, &self.label, told) {
-            Ok(()) => Ok(claim),
-            Err(cause) => Err(cause),
-        }
+        let taker = self.seats.taker_of(first.consumer);
+        shown.push(judged(taker, first, verdict))?;
+        release(&self.seats, &mut self.untold, shown)?;
+        Ok(())
     }
 }

@@ -1,17 +1,13 @@
 //! Whose takers are dropped at an answer.
-ghost use Rattle.std.specs.Prelude.{◌≡◌, Some, OnOk, OnErr, IsOkUnless};
+ghost use Rattle.std.specs.Prelude.{◌≡◌, ◌++◌, Some, OnOk, OnErr, IsOkUnless};
 ghost use Rattle.qq_base.specs.Fronts.{IsFront};
 ghost use Rattle.qq_cluster.specs.Taking.{dropped_by, leaving_at, leaving_by};
 ghost use Rattle.qq_taker.specs.Seats.{staying};
-ghost use Rattle.qq_cluster_queue.specs.Telling.{show_all};
 
-use crate::label::Label;
-use crate::told::Told;
 use qq_base::{ConsumerId, Memory};
 use qq_entry::{AuditRow, Command};
-use qq_session::closes;
-use qq_taker::{Leaving, Seats, Taker};
-use std::alloc::Global;
+use qq_session::{Shown, closes};
+use qq_taker::{Leaving, Seats};
 
 // Whose takers a command that is carried out drops.
 fn leaving_by(command: &Command) -> Option<Leaving>
@@ -38,25 +34,19 @@ pub fn leaving_at(row: &AuditRow) -> Option<Leaving>
     leaving_by(row.entry.command.get())
 }
 
-/// Those who lose their takers give them up, in the order of their tags, and that is told. After an error the text
-/// begins with what it had.
-pub fn drop_takers<T: Taker>(
-    alloc: Global,
-    whom: Leaving,
-    seats: &mut Seats,
-    label: &Label,
-    told: &mut Told<T>,
-) -> Result<(), Memory>
+/// Those who lose their takers give them up, in the order of their tags, and that is shown.
+pub fn drop_takers(whom: Leaving, seats: &mut Seats, shown: &mut Vec<Shown>) -> Result<(), Memory>
     ensures seats { OnOk result (seats.new ≡ staying whom seats.old) }
-    ensures said { OnOk result (told.new
-        ≡ show_all label.now (dropped_by (Some whom) seats.old) told.old) }
-    ensures err { OnErr result (IsFront told.old.text told.new.text) }
+    ensures said { OnOk result
+        (shown.new.items ≡ shown.old.items ++ dropped_by (Some whom) seats.old) }
+    ensures front { OnErr result (IsFront shown.old.items shown.new.items) }
     ensures want { IsOkUnless result Memory.Want }
 {
     'seats: while let Some(seat) = seats.leave_first(whom) {
-        if let Err(cause) = told.dropped(alloc, label, seat) {
-            return Err(cause);
-        }
+        shown.push(Shown::Dropped {
+            session: seat.consumer.session.number,
+            number: seat.number,
+        })?;
     }
     Ok(())
 }

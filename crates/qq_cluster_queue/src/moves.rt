@@ -16,11 +16,11 @@ ghost use Rattle.qq_cluster_queue.specs.Members.{moves_of, own_log, AreSound, Is
 use qq_base::{Duplicate, Memory, NodeId};
 use qq_entry::{Command, QueueArgs};
 use qq_group::{
-    Event, Group, RestartFault, Shown, events_reach_groups, what_is_committed_stays_in_the_audit,
+    Event, Group, RestartFault, events_reach_groups, what_is_committed_stays_in_the_audit,
 };
 use qq_group_laws::{a_message_always_fits, each_row_is_of_the_audit, members_apply_the_audit};
 use qq_log::Log;
-use qq_raft::what_is_applied_is_committed;
+use qq_raft::{AppliedRow, what_is_applied_is_committed};
 use qq_raft_model::what_a_group_committed_stays;
 use qq_raft_queues::MachineQueue;
 use std::alloc::Global;
@@ -28,17 +28,17 @@ use std::alloc::Global;
 /// The servers of the queue's members, each with the machine of parts.
 pub type Members = Group<MachineQueue, Log>;
 
-/// An event happens. After an error the member that it reached has crashed, a message that reached it is lost,
-/// and nothing else has changed.
+/// An event happens, and what it shows is its rows. After an error the member that it reached has crashed, a message
+/// that reached it is lost, and nothing else has changed.
 #[inline(always)]
-pub fn happen(alloc: Global, group: &mut Members, event: Event) -> Result<Shown, Memory>
+pub fn happen(alloc: Global, group: &mut Members, event: Event) -> Result<Vec<AppliedRow>, Memory>
     requires sound { AreSound group.old }
     requires event { MayHappen event }
 
     ensures sound { AreSound group.new }
     ensures nodes { group.new.nodes ≡ group.old.nodes }
     ensures ok { OnOk result (Makes (moves_of event) group.old group.new) }
-    ensures tells { IfOk result (λ shown. Tells event group.old shown.rows.items) }
+    ensures tells { IfOk result (λ rows. Tells event group.old rows.items) }
     ensures err { OnErr result (group.new.audit.items ≡ group.old.audit.items) }
     ensures cause { IfErr result (IsStepCaused event group.old) }
 {
@@ -49,30 +49,29 @@ pub fn happen(alloc: Global, group: &mut Members, event: Event) -> Result<Shown,
     a_message_always_fits::<MachineQueue, Log>();
     events_reach_groups();
     match group.step(alloc, event) {
-        Ok(shown) => Ok(shown),
+        Ok(shown) => Ok(shown.rows),
         Err(cause) => Err(cause),
     }
 }
 
-/// A client's command reaches a member, at time 0. After an error the member has crashed, and nothing else has
+/// A client's command reaches a member at this time. After an error the member has crashed, and nothing else has
 /// changed.
 #[inline(always)]
 pub fn submit(
     alloc: Global,
     group: &mut Members,
     node: NodeId,
+    time: u64,
     command: Command,
-) -> Result<Shown, Memory>
+) -> Result<(), Memory>
     requires sound { AreSound group.old }
     requires bytes { HasBytes command }
 
     ensures sound { AreSound group.new }
     ensures nodes { group.new.nodes ≡ group.old.nodes }
-    ensures ok { OnOk result (Makes (Submit node.0 0 command ∷ []) group.old group.new) }
-    ensures tells { IfOk result (λ shown.
-        Tells (events.Submit node 0 command) group.old shown.rows.items) }
+    ensures ok { OnOk result (Makes (Submit node.0 time command ∷ []) group.old group.new) }
     ensures err { OnErr result (group.new.audit.items ≡ group.old.audit.items) }
-    ensures cause { IfErr result (IsStepCaused (events.Submit node 0 command) group.old) }
+    ensures cause { IfErr result (IsStepCaused (events.Submit node time command) group.old) }
 {
     each_row_is_of_the_audit::<MachineQueue, Log>();
     what_is_committed_stays_in_the_audit::<MachineQueue, Log>();
@@ -80,8 +79,8 @@ pub fn submit(
     what_is_applied_is_committed::<MachineQueue>();
     a_message_always_fits::<MachineQueue, Log>();
     events_reach_groups();
-    match group.submit(alloc, node, 0, command) {
-        Ok(shown) => Ok(shown),
+    match group.submit(alloc, node, time, command) {
+        Ok(_) => Ok(()),
         Err(cause) => Err(cause),
     }
 }

@@ -13,7 +13,6 @@ ghost use Rattle.qq_cluster_queue.specs.Members.{down_start, own_log, AreSound, 
 
 use crate::cluster_queue::ClusterQueue;
 use crate::counts::Counts;
-use crate::label::Label;
 use crate::moves::Members;
 use crate::publishers::Publishers;
 use crate::untold::Untold;
@@ -67,22 +66,15 @@ fn down_group(alloc: Global, args: &QueueArgs, nodes: &[NodeId]) -> Result<Membe
 impl ClusterQueue {
     /// A queue whose members are down, on these nodes, its first member first: nothing was written, read or told.
     /// The only error is `Memory::Want`, out of memory.
-    pub fn new(
-        alloc: Global,
-        args: QueueArgs,
-        name: Text,
-        first: bool,
-        nodes: &[NodeId],
-    ) -> Result<Self, Memory>
+    pub fn new(alloc: Global, args: QueueArgs, name: Text, nodes: &[NodeId]) -> Result<Self, Memory>
         requires nodes { All IsNode nodes.now }
         requires count { length nodes.now < 2 ^ 32 }
         requires distinct { AreDistinct nodes.now }
 
         ensures sound { IfOk result (λ queue. AreSound queue.group) }
         ensures ok { IfOk result (Opens args nodes.now) }
-        ensures queue { IfOk result (λ queue. queue.label.queue ≡ args.queue) }
-        ensures label { IfOk result (λ queue.
-            (queue.label.name ≡ name) × (queue.label.first ≡ first)) }
+        ensures args { IfOk result (λ queue. queue.args ≡ args) }
+        ensures name { IfOk result (λ queue. queue.name ≡ name) }
         ensures nodes { IfOk result (λ queue. queue.group.nodes.items ≡ nodes.now) }
         ensures down { IfOk result (λ queue. (k : ℕ) → server_at k queue.group ≡ None) }
         ensures begins { IfOk result (λ queue. (logs : ℕ → List Op) → BeginsWith logs queue) }
@@ -94,11 +86,7 @@ impl ClusterQueue {
         let seats = Seats::new(alloc);
         let untold = Untold::new(alloc);
         Ok(ClusterQueue {
-            label: Label {
-                queue: args.queue,
-                name,
-                first,
-            },
+            name,
             args,
             publishers,
             consumers,

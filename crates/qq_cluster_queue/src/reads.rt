@@ -11,7 +11,7 @@ ghost use Rattle.qq_cluster_queue.specs.ClusterQueue.{is_up_at, OfItsQueue};
 ghost use Rattle.qq_cluster_queue.specs.Members.{number_of, AreSound};
 
 use crate::cluster_queue::ClusterQueue;
-use qq_base::NodeId;
+use qq_base::{NodeId, QueueId};
 use qq_group::{an_idle_group_has_nothing_open, what_is_committed_stays_in_the_audit};
 use qq_log::Log;
 use qq_parts::parts_tell_the_queue;
@@ -20,6 +20,13 @@ use qq_raft_msg::MemberState;
 use qq_raft_queues::MachineQueue;
 
 impl ClusterQueue {
+    /// Its number, which is its place among the queues of a cluster.
+    pub fn number(&self) -> QueueId
+        ensures { result ≡ self.now.args.queue }
+    {
+        self.args.queue
+    }
+
     /// The nodes of its members, the first member first.
     pub fn members(&self) -> &[NodeId]
         ensures { result.now ≡ self.now.group.nodes.items }

@@ -8,22 +8,19 @@ ghost use Rattle.qq_cluster.specs.Rules.{not_taken};
 ghost use Rattle.qq_group.specs.Reads.{leader_of};
 ghost use Rattle.qq_consuming.specs.Consumers.{know_by};
 ghost use Rattle.qq_session.specs.Clients.{may_hand};
-ghost use Rattle.qq_session.specs.Shown.{WindowFull, said_of};
+ghost use Rattle.qq_session.specs.Shown.{said_of};
 ghost use Rattle.qq_cluster_queue.specs.ClusterQueue.{DoesAlways, IsOfferCaused, IsResendCaused, IsSameQueue, IsSubmitCaused, OfItsQueue};
 ghost use Rattle.qq_cluster_queue.specs.Sessions.{numbers_of, subscribes};
 ghost use Rattle.qq_cluster_queue.specs.Members.{AreSound, Makes, number_of, own_log};
 ghost use Rattle.qq_cluster_queue.specs.Range.{HasBytes, MayStamp};
-ghost use Rattle.qq_cluster_queue.specs.Telling.{show, show_all};
 
 use crate::cluster_queue::ClusterQueue;
 use crate::moves::submit;
 use crate::publishers::Publishers;
-use crate::told::Told;
 use qq_base::{Memory, NodeId, SessionId};
 use qq_consuming::Consumers;
 use qq_entry::{Command, Unstamped};
-use qq_session::HandFault;
-use qq_taker::Taker;
+use qq_session::{HandFault, Shown};
 use std::alloc::Global;
 use std::collections::VecDeque;
 
@@ -55,22 +52,20 @@ fn learn(
     if !room {
         return Ok(());
     }
-    if let Err(cause) = consumers.know_by(alloc, SessionId::client(session), body) {
-        return Err(cause);
-    }
+    consumers.know_by(alloc, SessionId::client(session), body)?;
     Ok(())
 }
 
 impl ClusterQueue {
     // A command goes to the leader, at time 0; where there is none the session is told so.
     #[inline(always)]
-    fn offer<T: Taker>(
+    fn offer(
         &mut self,
         alloc: Global,
         session: u64,
         leader: Option<NodeId>,
         command: Command,
-        told: &mut Told<T>,
+        shown: &mut Vec<Shown>,
     ) -> Result<(), Memory>
         requires sound { AreSound self.old.group }
         requires bytes { HasBytes command }
@@ -80,44 +75,30 @@ impl ClusterQueue {
         ensures rest { self.new ≡ record self.old { group = self.new.group } }
         ensures ok { OnOk result
             (Makes (submit_to (number_of leader) command) self.old.group self.new.group) }
-        ensures said { OnOk result (told.new ≡ show_all self.old.label
-            (said_of (is_some leader) session (command ∷ [])) told.old) }
-        ensures err { OnErr result (IsFront told.old.text told.new.text) }
+        ensures said { OnOk result (shown.new.items ≡ shown.old.items
+            ++ said_of (is_some leader) session (command ∷ [])) }
+        ensures front { OnErr result (IsFront shown.old.items shown.new.items) }
         ensures audit { OnErr result (self.new.group.audit.items ≡ self.old.group.audit.items) }
         ensures cause { IfErr result (IsOfferCaused leader command self.old.group) }
     {
         let Some(node) = leader else {
-            return told.no_leader(alloc, &self.label, session);
+            drop(command);
+            shown.push(Shown::NoLeader { session })?;
+            return Ok(());
         };
-        if let Err(cause) = submit(alloc, &mut self.group, node, command) {
-            return Err(cause);
-        }
+        submit(alloc, &mut self.group, node, 0, command)?;
         Ok(())
     }
 
-    // A session is told that as many of its numbers are open as may be.
-    fn tell_full<T: Taker>(
-        &self,
-        alloc: Global,
-        session: u64,
-        told: &mut Told<T>,
-    ) -> Result<(), Memory>
-        ensures ok { OnOk result (told.new ≡ show self.now.label (WindowFull session) told.old) }
-        ensures err { OnErr result (told.new.text ≡ told.old.text) }
-        ensures want { IsOkUnless result Memory.Want }
-    {
-        told.window_full(alloc, &self.label, session)
-    }
-
-    /// A client, numbered from 1, gives a command in range the next number and sends it to the leader, and is told
-    /// where its window is full, or where there is no leader. `Spent` comes only where a number would be past its
-    /// end. After an error the text begins with what it had.
-    pub fn submit<T: Taker>(
+    // A client, numbered from 1, gives a command in range the next number and sends it to the leader, and is told where
+    // its window is full, or where there is no leader.
+    #[inline(always)]
+    pub(crate) fn submit(
         &mut self,
         alloc: Global,
         session: u64,
         body: Unstamped,
-        told: &mut Told<T>,
+        shown: &mut Vec<Shown>,
     ) -> Result<(), Memory>
         requires sound { AreSound self.old.group }
         requires session { 0 < session }
@@ -126,45 +107,34 @@ impl ClusterQueue {
         ensures sound { AreSound self.new.group }
         ensures same { IsSameQueue self.old self.new }
         ensures ok { OnOk result (DoesAlways (Submits session body) self.old self.new
-            told.old told.new) }
-        ensures err { OnErr result (IsFront told.old.text told.new.text) }
+            shown.old.items shown.new.items) }
+        ensures front { OnErr result (IsFront shown.old.items shown.new.items) }
         ensures audit { OnErr result (self.new.group.audit.items ≡ self.old.group.audit.items) }
         ensures cause { IfErr result (IsSubmitCaused session body self.old) }
     {
         let leader = self.group.leader();
-        if let Err(cause) = learn(alloc, &self.publishers, &mut self.consumers, session, &body) {
-            return Err(cause);
-        }
+        learn(alloc, &self.publishers, &mut self.consumers, session, &body)?;
         let command = match self.publishers.hand(alloc, session, body) {
             Ok(command) => command,
-            Err(HandFault::WindowFull) => return self.tell_full(alloc, session, told),
+            Err(HandFault::WindowFull) => {
+                shown.push(Shown::WindowFull { session })?;
+                return Ok(());
+            }
             Err(HandFault::Memory(cause)) => return Err(cause),
         };
-        if let Err(cause) = self.offer(alloc, session, leader, command, told) {
-            return Err(cause);
-        }
+        self.offer(alloc, session, leader, command, shown)?;
         Ok(())
     }
 
-    /// A session that has ended is to give a command, and that is told. The only error is `Memory::Want`, out of
-    /// memory, after which the text is as it was.
-    pub fn tell_ended<T: Taker>(
-        &mut self,
-        alloc: Global,
-        session: u64,
-        told: &mut Told<T>,
-    ) -> Result<(), Memory>
-        requires { AreSound self.old.group }
-
+    // A session that has ended is to give a command, and that is shown.
+    pub(crate) fn tell_ended(&mut self, session: u64, shown: &mut Vec<Shown>) -> Result<(), Memory>
         ensures same { self.new ≡ self.old }
         ensures ok { OnOk result (DoesAlways (TellsEnded session) self.old self.new
-            told.old told.new) }
-        ensures err { OnErr result (told.new.text ≡ told.old.text) }
+            shown.old.items shown.new.items) }
+        ensures err { OnErr result (shown.new.items ≡ shown.old.items) }
         ensures want { IsOkUnless result Memory.Want }
     {
-        if let Err(cause) = told.has_ended(alloc, &self.label, session) {
-            return Err(cause);
-        }
+        shown.push(Shown::HasEnded { session })?;
         Ok(())
     }
 
@@ -177,36 +147,30 @@ impl ClusterQueue {
             .not_taken(alloc, SessionId::client(session), body)
     }
 
-    /// A session is to give a command for a delivery of this id, which wasn't handed out, and that is told. The only
-    /// error is `Memory::Want`, out of memory, after which the text is as it was.
-    pub fn tell_not_taken<T: Taker>(
+    // A session is to give a command for a delivery of this id, which wasn't handed out, and that is shown.
+    pub(crate) fn tell_not_taken(
         &mut self,
-        alloc: Global,
         session: u64,
         id: u64,
-        told: &mut Told<T>,
+        shown: &mut Vec<Shown>,
     ) -> Result<(), Memory>
-        requires { AreSound self.old.group }
-
         ensures same { self.new ≡ self.old }
         ensures ok { OnOk result (DoesAlways (TellsNotTaken session id) self.old self.new
-            told.old told.new) }
-        ensures err { OnErr result (told.new.text ≡ told.old.text) }
+            shown.old.items shown.new.items) }
+        ensures err { OnErr result (shown.new.items ≡ shown.old.items) }
         ensures want { IsOkUnless result Memory.Want }
     {
-        if let Err(cause) = told.not_taken(alloc, &self.label, session, id) {
-            return Err(cause);
-        }
+        shown.push(Shown::NotTaken { session, id })?;
         Ok(())
     }
 
-    /// The queue is told that a session, numbered from 1, has ended, where it has given commands, and
-    /// it is told where there is no leader. After an error the text begins with what it had.
-    pub fn down<T: Taker>(
+    // The queue is told that a session, numbered from 1, has ended, where it has given commands; the session is told
+    // where there is no leader.
+    pub(crate) fn down(
         &mut self,
         alloc: Global,
         session: u64,
-        told: &mut Told<T>,
+        shown: &mut Vec<Shown>,
     ) -> Result<(), Memory>
         requires sound { AreSound self.old.group }
         requires session { 0 < session }
@@ -214,8 +178,8 @@ impl ClusterQueue {
         ensures sound { AreSound self.new.group }
         ensures same { IsSameQueue self.old self.new }
         ensures ok { OnOk result (DoesAlways (Downs session) self.old self.new
-            told.old told.new) }
-        ensures err { OnErr result (IsFront told.old.text told.new.text) }
+            shown.old.items shown.new.items) }
+        ensures front { OnErr result (IsFront shown.old.items shown.new.items) }
         ensures audit { OnErr result (self.new.group.audit.items ≡ self.old.group.audit.items) }
         ensures cause { IfErr result (IsOfferCaused (leader_of own_log self.old.group)
             (Down (client session)) self.old.group) }
@@ -228,38 +192,32 @@ impl ClusterQueue {
             session: SessionId::client(session),
         };
         let leader = self.group.leader();
-        if let Err(cause) = self.offer(alloc, session, leader, command, told) {
-            return Err(cause);
-        }
+        self.offer(alloc, session, leader, command, shown)?;
         Ok(())
     }
 
-    /// A client sends its open commands again, and is told where there is no leader. After an error the text begins
-    /// with what it had, and some of the commands may have reached the leader.
-    pub fn resend<T: Taker>(
+    // A client sends its open commands again, and is told where there is no leader. After an error some of the commands
+    // may have reached the leader.
+    pub(crate) fn resend(
         &mut self,
         alloc: Global,
         session: u64,
-        told: &mut Told<T>,
+        shown: &mut Vec<Shown>,
     ) -> Result<(), Memory>
         requires { AreSound self.old.group }
 
         ensures sound { AreSound self.new.group }
         ensures same { IsSameQueue self.old self.new }
         ensures ok { OnOk result (DoesAlways (Resends session) self.old self.new
-            told.old told.new) }
-        ensures err { OnErr result (IsFront told.old.text told.new.text) }
+            shown.old.items shown.new.items) }
+        ensures front { OnErr result (IsFront shown.old.items shown.new.items) }
         ensures cause { IfErr result (IsResendCaused session self.old) }
     {
         let leader = self.group.leader();
-        let mut commands = match self.publishers.resend(alloc, session) {
-            Ok(commands) => VecDeque::from_vec(commands),
-            Err(cause) => return Err(cause),
-        };
-        'commands: while let Some(command) = commands.pop_front() {
-            if let Err(cause) = self.offer(alloc, session, leader, command, told) {
-                return Err(cause);
-            }
+        let commands = self.publishers.resend(alloc, session)?;
+        let mut rest = VecDeque::from_vec(commands);
+        'commands: while let Some(command) = rest.pop_front() {
+            self.offer(alloc, session, leader, command, shown)?;
         }
         Ok(())
     }

@@ -7,11 +7,9 @@ ghost use Rattle.qq_cluster_queue.specs.ClusterQueue.{OfItsQueue};
 ghost use Rattle.qq_cluster_queue.specs.Members.{AreSound};
 
 use crate::cluster_queue::ClusterQueue;
-use crate::told::Told;
 use qq_base::{Memory, NodeId};
 use qq_raft_msg::{MemberState, Role};
 use qq_script::{push_number, push_text};
-use qq_taker::Taker;
 use std::alloc::Global;
 
 fn role_text(role: Role) -> &'static str
@@ -44,31 +42,24 @@ fn push_state(line: &mut Vec<u8>, member: Option<MemberState>) -> Result<(), Mem
 }
 
 impl ClusterQueue {
-    /// The line of the state of the member on a node is told. The only error is `Memory::Want`, out of memory, after
-    /// which all is as it was.
-    pub fn state_text<T: Taker>(
-        &self,
-        alloc: Global,
-        node: NodeId,
-        told: &mut Told<T>,
-    ) -> Result<(), Memory>
+    /// Adds the line of the state of the member on a node. The only error is `Memory::Want`, out of memory, after
+    /// which `out` is as it was.
+    pub fn state_text(&self, alloc: Global, node: NodeId, out: &mut Vec<u8>) -> Result<(), Memory>
         requires { AreSound self.now.group }
 
-        ensures ok { OnOk result (OfItsQueue self.now (λ q. told.new
-            ≡ record told.old {
-              text = told.old.text
-                  ++ state_line self.now.label.name node.0 (q.group.seat node.0).server;
-            })) }
-        ensures err { OnErr result (told.new ≡ told.old) }
+        ensures ok { OnOk result (OfItsQueue self.now (λ q. out.new.items ≡ out.old.items
+            ++ state_line self.now.name node.0 (q.group.seat node.0).server)) }
+        ensures err { OnErr result (out.new.items ≡ out.old.items) }
         ensures want { IsOkUnless result Memory.Want }
     {
         let mut line = Vec::new(alloc);
-        push_text(&mut line, self.label.name.as_str())?;
+        push_text(&mut line, self.name.as_str())?;
         push_text(&mut line, " ")?;
         push_number(&mut line, u64::from(node.0))?;
         push_text(&mut line, " ")?;
         push_state(&mut line, self.group.member(node))?;
         push_text(&mut line, "\n")?;
-        told.write(&line)
+        out.extend_from_slice(line.as_slice())?;
+        Ok(())
     }
 }

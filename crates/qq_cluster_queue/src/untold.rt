@@ -1,5 +1,5 @@
 //! The deliveries that were handed out and wait for a verdict.
-ghost use Rattle.std.specs.Prelude.{◌≡◌, ◌∷◌, ◌++◌, [], drop, false, length, map, option_to_list, slice_get, IfSome, IfNone, OnOk, OnErr, IsOkUnless};
+ghost use Rattle.std.specs.Prelude.{◌≡◌, ◌∷◌, ◌++◌, [], false, length, map, option_to_list, slice_get, IfSome, IfNone, OnOk, OnErr, IsOkUnless};
 ghost use Rattle.std.specs.Option.{option_copied};
 ghost use Rattle.qq_cluster.specs.Taking.{has_taker, told_of, waiting_of};
 ghost use Rattle.qq_cluster_queue.specs.Waiting.{handed_to, is_plain};
@@ -50,19 +50,12 @@ impl Untold {
         self.rows.front()
     }
 
-    // Takes the first one out.
-    fn pop(&mut self) -> Option<Handed>
+    /// Takes the first one out.
+    pub fn pop(&mut self) -> Option<Handed>
         ensures items { self.old ≡ option_to_list result ++ self.new }
         ensures none { IfNone result (self.old ≡ []) }
     {
         self.rows.pop_front()
-    }
-
-    /// Passes over the first one.
-    pub fn skip(&mut self)
-        ensures { self.new ≡ drop 1 self.old }
-    {
-        drop(self.rows.pop_front());
     }
 
     // Whether there is a first one, and its consumer has no taker.

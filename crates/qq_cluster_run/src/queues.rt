@@ -15,7 +15,7 @@ ghost use Rattle.qq_model.specs.Audit.{audit_of, deliveries, effects_of};
 ghost use Rattle.qq_model.specs.State.{empty_queue};
 ghost use Rattle.qq_session.specs.Answered.{IsAnswered};
 ghost use Rattle.qq_session.specs.Clients.{sender, ended_by};
-ghost use Rattle.qq_session.specs.Shown.{Answered, Delivered};
+ghost use Rattle.qq_session.specs.declared.shown.Shown.TheVariants.{Answered, Delivered};
 ghost use Rattle.qq_cluster.specs.Cluster.{ClusterEvent, Of};
 ghost use Rattle.qq_cluster.specs.ClusterLaws.{shown_at};
 ghost use Rattle.qq_cluster.specs.Laws.{deliveries_shown};

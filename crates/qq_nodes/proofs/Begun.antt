@@ -84,13 +84,6 @@ ids-from setup k a (row ∷ rows) each =
     by false true is rest = absurd cc
     by false false is rest = rest
 
-first-index : (at : ℕ) → nat_eq at 0 ≡ nat_eq (at + 1) 1
-first-index at =
-    elim (cases_eq at 0) [
-      | inl own ↦ eq-eqb at 0 own ∙ sym (eq-eqb (at + 1) 1 (omega (arith, own)))
-      | inr other ↦ ne_eqb at 0 other ∙ sym (ne_eqb (at + 1) 1 (λ e. other (omega (arith, e))))
-    ]
-
 all-of : {A : Type 0} (P : A → Type 0) (xs : List A) → ((x : A) → P x) → AllByRecursion P xs
 all-of P [] each = tt
 all-of P (x ∷ xs) each = (each x, all-of P xs each)
@@ -107,14 +100,13 @@ ids-are setup rows places each k =
 
 module _ (setup : Setup) (rows : List QueueRow) (count : ℕ) (set : IsSetupOver setup rows count) where
   queue-begins : (at : ℕ) (row : QueueRow) (d : ClusterQueue) → slice_get rows at ≡ Some row
-      → IsQueueFor row (nat_eq at 0) d → IsQueueOf setup (standings []) (new_cluster setup) (at + 1) d
+      → IsQueueFor row d → IsQueueOf setup (standings []) (new_cluster setup) (at + 1) d
   queue-begins at row d here own = record {
     stands = subst (λ (args : QueueArgs). IsQueue all_present d (begin args (setup.group (at + 1)))) is.args_is
         (own.opens (setup.group (at + 1)) reached is.down);
     sound = own.sound;
     name_is = own.name_is ∙ is.name_is;
-    first_is = own.first_is ∙ first-index at ∙ ap (nat_eq (at + 1)) (sym set.set_up.first);
-    place_is = ap (λ (q : QueueId). q.0) own.queue_is ∙ ap (λ (a : QueueArgs). a.queue.0) is.args_is
+    place_is = ap (λ (a : QueueArgs). a.queue.0) own.args_is ∙ ap (λ (a : QueueArgs). a.queue.0) is.args_is
         ∙ set.set_up.ids (at + 1) among;
   }
     where

@@ -66,12 +66,12 @@ own-args args nodes d reached opens =
     sym (opens (new_group args.queue nodes) reached
     (record { queue_is = refl; nodes_is = refl; seats = λ k. refl; bag = refl; audit_is = refl })).args
 
-pub queue-made : (row : QueueRow) (first : Bool) (args : QueueArgs) (name : List ℕ) (nodes : List NodeId)
+pub queue-made : (row : QueueRow) (args : QueueArgs) (name : List ℕ) (nodes : List NodeId)
     (d : ClusterQueue) → args ≡ row.args → name ≡ row.name → nodes ≡ row.members
     → IsReached (new_group row.args.queue row.members) → AreSound d.group → Opens args nodes d
-    → (d.label.name ≡ name) × (d.label.first ≡ first) → d.label.queue ≡ args.queue → d.group.nodes.items ≡ nodes
-    → ((k : ℕ) → server_at k d.group ≡ None) → ((logs : ℕ → List Op) → BeginsWith logs d) → IsQueueFor row first d
-queue-made row first args name nodes d args_is name_is nodes_is reached sound opens label queue own_nodes down begins =
+    → d.name ≡ name → d.group.nodes.items ≡ nodes
+    → ((k : ℕ) → server_at k d.group ≡ None) → ((logs : ℕ → List Op) → BeginsWith logs d) → IsQueueFor row d
+queue-made row args name nodes d args_is name_is nodes_is reached sound opens named own_nodes down begins =
     let opens_row : Opens row.args row.members d =
     subst (λ (a : QueueArgs). Opens a row.members d) args_is
     (subst (λ (l : List NodeId). Opens args l d) nodes_is opens) in
@@ -80,9 +80,7 @@ queue-made row first args name nodes d args_is name_is nodes_is reached sound op
       opens = opens_row;
       args_is = own-args row.args row.members d reached opens_row;
       nodes_is = own_nodes ∙ nodes_is;
-      name_is = label.0 ∙ name_is;
-      first_is = label.1;
-      queue_is = queue ∙ ap (λ (a : QueueArgs). a.queue) args_is;
+      name_is = named ∙ name_is;
       down = down;
       begins = begins;
     }

@@ -1,7 +1,7 @@
--- Takers are asked, and their verdicts are followed.
+-- Takers are event_of, and their verdicts are followed.
 use Rattle.std.proofs.Common.{◌≡◌, ◌<◌, ◌+◌, ℕ, zero, suc, true, List, [], ◌∷◌, ◌++◌, Option, Some, None, get_or, length, refl, sym, ap, ◌∙◌, subst}
 use Rattle.std.specs.List.{AllByRecursion}
-use Rattle.std.specs.Prelude.{slice_get, slice_set}
+use Rattle.std.specs.Prelude.{nat_eq, slice_get, slice_set}
 use Rattle.std.proofs.lemmas.Option.{slice_get-get_or}
 use Rattle.qq_disk.specs.Facts.{DiskFacts}
 use Rattle.qq_entry.specs.declared.command.Unstamped.{Unstamped}
@@ -12,13 +12,13 @@ use Rattle.qq_cluster.specs.Queue.{Judges}
 use Rattle.qq_cluster.specs.Rules.{IsCommanded, IsJudgedWhere, IsNextJudged}
 use Rattle.qq_cluster.specs.Taking.{command_for}
 use Rattle.qq_cluster_queue.specs.ClusterQueue.{IsSameQueue}
-use Rattle.qq_cluster_queue.specs.Judging.{HasJudged, claim_by}
+use Rattle.qq_cluster_queue.specs.Judging.{claim_by}
 use Rattle.qq_cluster_queue.specs.Members.{AreSound}
 use Rattle.qq_cluster_queue.specs.Sessions.{standings}
 use Rattle.qq_cluster_queue.specs.declared.cluster_queue.ClusterQueue.{ClusterQueue}
 use Rattle.qq_cluster_queue.specs.declared.claim.Claim.{Claim}
 use Rattle.qq_nodes.specs.Active.{is_in}
-use Rattle.qq_nodes.specs.Judging.{IsClaimedBy, IsClaimedWhere, IsFollowed, JudgesAt}
+use Rattle.qq_nodes.specs.Judging.{HasJudged, IsClaimedBy, IsClaimedWhere, IsFollowed, JudgesAt}
 use Rattle.qq_nodes.specs.Nodes.{IsSetUp, Served, Stands}
 use Rattle.qq_nodes.specs.declared.nodes.Nodes.{Nodes as Held}
 use Rattle.qq_nodes.proofs.OneQueue.{served-at}
@@ -27,7 +27,7 @@ use Rattle.qq_nodes.proofs.Stands.{served-still, served-weaker}
 -- the queue at an index
 pub judged-at : (claim : Option Claim) (at : ℕ) (olds : List ClusterQueue) (d new : ClusterQueue)
     (before after : Outcome) → at < length olds → AreSound new.group → IsSameQueue (get_or olds at d) new
-    → HasJudged (get_or olds at d).untold (get_or olds at d) new before after claim
+    → HasJudged (nat_eq at 0) (get_or olds at d).untold (get_or olds at d) new before after claim
     → JudgesAt claim at olds (slice_set olds at new) before after
 judged-at claim at olds d new before after lt sound same judged = record {
   old = get_or olds at d;
@@ -100,7 +100,7 @@ module _ {D : Type 0} {facts : DiskFacts D} where
       waits untold is setup c st = sym is ∙ sym (st.queues at judges.old judges.here).stands.untold
 
       by : (untold : List Handed) → judges.old.untold ≡ untold
-          → HasJudged untold judges.old judges.new before later claim
+          → HasJudged (nat_eq at 0) untold judges.old judges.new before later claim
           → Served facts (λ setup. IsClaimedBy claim (at + 1)) old new before later
       by [] is none =
           subst (λ (o : Outcome). Served facts (λ setup. IsClaimedBy claim (at + 1)) old new before o) (sym none.1)

@@ -7,12 +7,13 @@ pub mod Items
 pub mod Outcomes
 pub mod Stands
 pub mod Joined
+pub mod Telling
 pub mod OneQueue
 pub mod Repeated
 pub mod Judged
 pub mod Refused
 pub mod Membership
-pub mod Told
+pub mod WaitsThere
 pub mod Pumping
 pub mod LineRules
 pub mod Owned
@@ -33,4 +34,4 @@ pub mod Putting
 pub mod Stopped
 pub mod Begun
 pub mod Ticked
-pub mod AskEnds
+pub mod EventEnds

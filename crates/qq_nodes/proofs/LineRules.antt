@@ -122,7 +122,6 @@ module _ {D : Type 0} {facts : DiskFacts D} where
             stands = does d (c.queue (i + 1)) was.stands;
             sound = was.sound;
             name_is = was.name_is;
-            first_is = was.first_is;
             place_is = was.place_is;
           });
           nodes = λ i node there. node-stays setup c (Alike standing) (i + 1) node refl (st.nodes i node there);

@@ -27,7 +27,7 @@ use Rattle.qq_nodes.specs.declared.nodes.Nodes.{Nodes as Held}
 use Rattle.qq_nodes.proofs.LineRules.{at-queue, at-queue_gave_up}
 use Rattle.qq_nodes.proofs.Pumping.{rule-else, rule-if}
 use Rattle.qq_nodes.proofs.Stands.{gave_up-first, gave_up-same, gave_up-second, gave_up-weaker, served-nothing, served-then, served-weaker}
-use Rattle.qq_nodes.proofs.Told.{place-here}
+use Rattle.qq_nodes.proofs.WaitsThere.{place-here}
 use Rattle.qq_nodes.proofs.Total.{total-if, total-is, total-nothing}
 use Rattle.qq_nodes.proofs.Walks.{from-range}
 

@@ -1,32 +1,35 @@
--- One queue does what is asked of it.
+-- One queue does what is event_of of it.
 use Rattle.std.proofs.Common.{◌≡◌, ◌≢◌, ◌⊎◌, ◌<◌, ◌+◌, ℕ, zero, suc, Bool, true, false, cond, List, [], ◌∷◌, ◌++◌, Some, None, get_or, length, map, refl, sym, ap, ◌∙◌, subst, inl, inr, arith, append-nil}
-use Rattle.std.specs.Prelude.{slice_get, slice_set}
+use Rattle.std.specs.Prelude.{nat_eq, slice_get, slice_set}
 use Rattle.std.specs.List.{AllByRecursion, flat_map}
 use Rattle.std.proofs.lemmas.Bool.{eq-eqb, false≢true, ne_eqb}
 use Rattle.std.proofs.lemmas.Option.{slice_get-get_or}
 use Rattle.qq_cluster_queue.specs.Members.{AreSound}
 use Rattle.qq_disk.specs.Facts.{DiskFacts}
 use Rattle.qq_lots.specs.Lots.{Parts}
-use Rattle.qq_session.specs.Shown.{Shown}
+use Rattle.qq_session.specs.declared.shown.Shown.{Shown}
 use Rattle.qq_cluster.specs.Cluster.{At, Cluster, ClusterEvent, Of, Sets, Setup, cluster_happens}
 use Rattle.qq_cluster.specs.Outcome.{Outcome, sees_all}
 use Rattle.qq_cluster.specs.Queue.{Event, Queue, after, happens, said}
 use Rattle.qq_cluster.specs.Rules.{Is, IsNothing, is_quiet}
-use Rattle.qq_cluster.specs.Texts.{is_first, printed_text, shown_text, shown_text_as, text_of}
+use Rattle.qq_script.specs.Shown.{shown_text}
+use Rattle.qq_cluster.specs.Texts.{is_first, printed_text, shown_text_at, text_of}
 use Rattle.qq_cluster.proofs.Outcomes.{takers-at}
 use Rattle.qq_cluster_laws.specs.Linked.{lot_of, parts_at}
 use Rattle.qq_cluster_laws.specs.Unseen.{is_node, seen_by, sees, touched}
 use Rattle.qq_cluster_laws.proofs.Serves.{ShowsOne}
 use Rattle.qq_cluster_laws.proofs.Unseen.{parts-stay, unseen-follow, up-stays}
-use Rattle.qq_cluster_queue.specs.ClusterQueue.{Becomes, Does, DoesAlways, IsSameQueue, Shows, Stands as IsQueue, text_as}
+use Rattle.qq_cluster_queue.specs.ClusterQueue.{IsSameQueue, Stands as IsQueue}
+use Rattle.qq_cluster_queue.specs.Events.{event_of}
 use Rattle.qq_cluster_queue.specs.Sessions.{Standings, standings}
 use Rattle.qq_cluster_queue.specs.declared.cluster_queue.ClusterQueue.{ClusterQueue}
 use Rattle.qq_node_log.specs.Log.{Stands as IsLog}
 use Rattle.qq_nodes.specs.Active.{is_in, put_in}
-use Rattle.qq_nodes.specs.Asking.{DoesAt, asked}
+use Rattle.qq_nodes.specs.Happening.{DoesAt}
+use Rattle.qq_nodes.specs.Telling.{Does, Shows}
 use Rattle.qq_nodes.specs.Nodes.{IsNodeOf, IsQueueOf, IsSetUp, Served, Stands}
-use Rattle.qq_nodes.specs.declared.asking.Ask.{Ask}
-use Rattle.qq_nodes.specs.declared.asking.Ask.TheVariants.{Submit, TellEnded, TellNotTaken, Attach, Resend, Fetch, Down, Tick, Notice, Deliver, Lose, Copy}
+use Rattle.qq_cluster_queue.specs.declared.event.QueueEvent.{QueueEvent}
+use Rattle.qq_cluster_queue.specs.declared.event.QueueEvent.TheVariants.{Submit, TellEnded, TellNotTaken, Attach, Resend, Fetch, Down, Tick, Notice, Deliver, Lose, Copy, Judge}
 use Rattle.qq_nodes.specs.declared.node.Node.{Node}
 use Rattle.qq_nodes.specs.declared.nodes.Nodes.{Nodes as Held}
 use Rattle.qq_nodes.proofs.Outcomes.{outcome_after, same-outcome, shows-one}
@@ -58,33 +61,9 @@ set-long (y ∷ ys) (suc at) x = ap suc (set-long ys at x)
 
 -- ---- one queue
 
--- what shows nothing adds nothing to a text
-pub becomes-does : (event : Event) (sessions : Standings) (old new : ClusterQueue) (outcome : Outcome)
-    → Becomes event old new → Does event sessions old new outcome outcome
-becomes-does event sessions old new outcome becomes q st =
-    let both = becomes sessions q st in (
-      both.0,
-      record {
-        text = sym (append-nil outcome.text) ∙ ap (λ (l : List Shown). outcome.text ++ text_as old l) (sym both.1);
-        takers = ap (λ (l : List Shown). sees_all old.label.queue.0 l outcome.takers) (sym both.1);
-      },
-    )
-
--- what is asked is the event
-pub asked-always : (ask : Ask) (event : Event) (sessions : Standings) (old new : ClusterQueue) (before after : Outcome)
-    → asked ask ≡ event → DoesAlways event old new before after → Does (asked ask) sessions old new before after
-asked-always ask event sessions old new before after is does =
-    subst (λ (e : Event). Does e sessions old new before after) (sym is) (does sessions)
-
-pub asked-becomes : (ask : Ask) (event : Event) (sessions : Standings) (old new : ClusterQueue) (outcome : Outcome)
-    → asked ask ≡ event → Becomes event old new → Does (asked ask) sessions old new outcome outcome
-asked-becomes ask event sessions old new outcome is becomes =
-    subst (λ (e : Event). Does e sessions old new outcome outcome) (sym is)
-    (becomes-does event sessions old new outcome becomes)
-
 pub does-at : (event : Event) (sessions : Standings) (at : ℕ) (olds : List ClusterQueue) (d new : ClusterQueue)
     (before after : Outcome) → at < length olds → AreSound new.group → IsSameQueue (get_or olds at d) new
-    → Does event sessions (get_or olds at d) new before after
+    → Does (nat_eq at 0) event sessions (get_or olds at d) new before after
     → DoesAt event sessions at olds (slice_set olds at new) before after
 does-at event sessions at olds d new before after lt sound same does = record {
   old = get_or olds at d;
@@ -96,45 +75,58 @@ does-at event sessions at olds d new before after lt sound same does = record {
   does = does;
 }
 
-pub asked-unseen : (ask : Ask) → touched (asked ask) ≡ None
-asked-unseen (Submit session body) = refl
-asked-unseen (TellEnded session) = refl
-asked-unseen (TellNotTaken session id) = refl
-asked-unseen (Attach session tag number) = refl
-asked-unseen (Resend session) = refl
-asked-unseen (Fetch session) = refl
-asked-unseen (Down session) = refl
-asked-unseen (Tick node) = refl
-asked-unseen (Notice node) = refl
-asked-unseen (Deliver message) = refl
-asked-unseen (Lose message) = refl
-asked-unseen (Copy message) = refl
+pub event-unseen : (event : QueueEvent) → touched (event_of event) ≡ None
+event-unseen (Submit session body) = refl
+event-unseen (TellEnded session) = refl
+event-unseen (TellNotTaken session id) = refl
+event-unseen (Attach session tag number) = refl
+event-unseen (Resend session) = refl
+event-unseen (Fetch session) = refl
+event-unseen (Down session) = refl
+event-unseen (Tick node) = refl
+event-unseen (Notice node) = refl
+event-unseen (Deliver place) = refl
+event-unseen (Lose place) = refl
+event-unseen (Copy place) = refl
+event-unseen (Judge verdict) = refl
 
 -- ---- what it shows
 
 shown-all : (setup : Setup) (place : ℕ) (all : List Shown)
-    → flat_map (shown_text_as (is_first setup place) (setup.name place)) all
+    → flat_map (shown_text (is_first setup place) (setup.name place)) all
     ≡ flat_map (printed_text setup) (map (Of place) all)
 shown-all setup place [] = refl
-shown-all setup place (shown ∷ all) = ap (λ (l : List ℕ). shown_text setup place shown ++ l) (shown-all setup place all)
+shown-all setup place (shown ∷ all) = ap (λ (l : List ℕ). shown_text_at setup place shown ++ l) (shown-all setup place all)
 
-pub text-at : (setup : Setup) (sessions : Standings) (c : Cluster) (event : Event) (place : ℕ) (d : ClusterQueue)
-    → IsQueueOf setup sessions c place d
-    → text_as d (said (c.queue place) event) ≡ text_of setup c (At place event ∷ [])
-text-at setup sessions c event place d is =
-    ap (λ (b : Bool). flat_map (shown_text_as b d.label.name) (said (c.queue place) event)) is.first_is
-    ∙ ap (λ (name : List ℕ). flat_map (shown_text_as (is_first setup place) name) (said (c.queue place) event)) is.name_is
-    ∙ shown-all setup place (said (c.queue place) event)
-    ∙ ap (flat_map (printed_text setup)) (sym (append-nil (map (Of place) (said (c.queue place) event))))
+-- the first queue is the one at the first place
+pub first-at : (setup : Setup) (at : ℕ) → setup.first ≡ 1 → nat_eq at 0 ≡ is_first setup (at + 1)
+first-at setup at one = by at ∙ ap (nat_eq (at + 1)) (sym one)
+  where
+    by : (k : ℕ) → nat_eq k 0 ≡ nat_eq (k + 1) 1
+    by zero = refl
+    by (suc k) = sym (ne_eqb (suc k + 1) 1 (λ e. absurd (omega (arith, e))))
+
+pub text-at : (setup : Setup) (sessions : Standings) (c : Cluster) (event : Event) (at : ℕ) (d : ClusterQueue)
+    → setup.first ≡ 1 → IsQueueOf setup sessions c (at + 1) d
+    → flat_map (shown_text (nat_eq at 0) d.name) (said (c.queue (at + 1)) event)
+    ≡ text_of setup c (At (at + 1) event ∷ [])
+text-at setup sessions c event at d one is =
+    ap (λ (b : Bool). flat_map (shown_text b d.name) (said (c.queue (at + 1)) event)) (first-at setup at one)
+    ∙ ap (λ (name : List ℕ). flat_map (shown_text (is_first setup (at + 1)) name) (said (c.queue (at + 1)) event))
+    is.name_is
+    ∙ shown-all setup (at + 1) (said (c.queue (at + 1)) event)
+    ∙ ap (flat_map (printed_text setup)) (sym (append-nil (map (Of (at + 1)) (said (c.queue (at + 1)) event))))
 
 -- and what comes of it
-pub shows-at : (setup : Setup) (sessions : Standings) (c : Cluster) (event : Event) (place : ℕ) (d : ClusterQueue)
-    (before later : Outcome) → IsQueueOf setup sessions c place d → Shows d (said (c.queue place) event) before later
-    → ShowsOne setup c (At place event) before later
-shows-at setup sessions c event place d before later is shows = record {
-  text = shows.text ∙ ap (λ (l : List ℕ). before.text ++ l) (text-at setup sessions c event place d is);
-  takers = shows.takers ∙ ap (λ (k : ℕ). sees_all k (said (c.queue place) event) before.takers) is.place_is
-      ∙ sym (takers-at setup c place event before.takers);
+pub shows-at : (setup : Setup) (sessions : Standings) (c : Cluster) (event : Event) (at : ℕ) (d : ClusterQueue)
+    (before later : Outcome) → setup.first ≡ 1 → IsQueueOf setup sessions c (at + 1) d
+    → Shows (nat_eq at 0) d (said (c.queue (at + 1)) event) before later
+    → ShowsOne setup c (At (at + 1) event) before later
+shows-at setup sessions c event at d before later one is shows = record {
+  text = shows.text ∙ ap (λ (l : List ℕ). before.text ++ l) (text-at setup sessions c event at d one is);
+  takers = shows.takers
+      ∙ ap (λ (k : ℕ). sees_all k (said (c.queue (at + 1)) event) before.takers) is.place_is
+      ∙ sym (takers-at setup c (at + 1) event before.takers);
 }
 
 -- ---- the cluster after an event at one place
@@ -208,9 +200,8 @@ module _ {D : Type 0} {facts : DiskFacts D} where
                 stands = subst (IsQueue (standings old.sessions) does.new) (sym (own-queue c (at + 1) event))
                     (does.does (c.queue (at + 1)) was.stands).0;
                 sound = does.sound;
-                name_is = ap (λ l. l.name) does.same.label_is ∙ was.name_is;
-                first_is = ap (λ l. l.first) does.same.label_is ∙ was.first_is;
-                place_is = ap (λ l. l.queue.0) does.same.label_is ∙ was.place_is;
+                name_is = does.same.name_is ∙ was.name_is;
+                place_is = ap (λ a. a.queue.0) does.same.args_is ∙ was.place_is;
               }))
           by (inr other) =
               let was = st.queues i d other.1 in
@@ -219,12 +210,11 @@ module _ {D : Type 0} {facts : DiskFacts D} where
                     (sym (other-queue c (at + 1) (i + 1) event (λ e. other.0 (plain i at e)))) was.stands;
                 sound = was.sound;
                 name_is = was.name_is;
-                first_is = was.first_is;
                 place_is = was.place_is;
               }
 
 module _ {D : Type 0} {facts : DiskFacts D} where
-  -- a queue that is active does what is asked of it
+  -- a queue that is active does what is event_of of it
   pub served-at : (event : Event) (at : ℕ) (old new : Held D) (before later : Outcome)
       → touched event ≡ None → is_in at old.active ≡ true → new ≡ record old { queues = new.queues }
       → DoesAt event (standings old.sessions) at old.queues.items new.queues.items before later
@@ -234,7 +224,7 @@ module _ {D : Type 0} {facts : DiskFacts D} where
       (λ setup c r st. (let was = st.queues at does.old does.here in (
         refl,
         stands-at setup c at event old new before later unseen active same does st,
-        shows-at setup (standings old.sessions) c event (at + 1) does.old before later was
+        shows-at setup (standings old.sessions) c event at does.old before later st.set_up.first was
             (does.does (c.queue (at + 1)) was.stands).1,
       )))
 
@@ -276,7 +266,6 @@ module _ {D : Type 0} {facts : DiskFacts D} where
             stands = subst (IsQueue (standings held.sessions) d) (sym (queues c (i + 1))) was.stands;
             sound = was.sound;
             name_is = was.name_is;
-            first_is = was.first_is;
             place_is = was.place_is;
           });
           nodes = λ i node there. node-stays setup c event (i + 1) node (ap (is_node (i + 1)) unseen) (st.nodes i node there);
@@ -300,7 +289,6 @@ module _ {D : Type 0} {facts : DiskFacts D} where
             stands = was.stands;
             sound = was.sound;
             name_is = was.name_is;
-            first_is = was.first_is;
             place_is = was.place_is;
           });
           nodes = λ i node there. node-stays setup c (Sets auto) (i + 1) node refl (st.nodes i node there);

@@ -61,9 +61,8 @@ turned-queues test event setup sessions c d olds news turns was own other at e t
           stands = subst (IsQueue sessions e) (sym (own at lt is))
               (turn.becomes sessions (c.queue (at + 1)) old.stands).0;
           sound = turn.sound;
-          name_is = ap (λ l. l.name) turn.same.label_is ∙ old.name_is;
-          first_is = ap (λ l. l.first) turn.same.label_is ∙ old.first_is;
-          place_is = ap (λ l. l.queue.0) turn.same.label_is ∙ old.place_is;
+          name_is = turn.same.name_is ∙ old.name_is;
+          place_is = ap (λ a. a.queue.0) turn.same.args_is ∙ old.place_is;
         }
     by false is =
         let old = was at e (sym (turns.others at is) ∙ there) in
@@ -71,7 +70,6 @@ turned-queues test event setup sessions c d olds news turns was own other at e t
           stands = subst (IsQueue sessions e) (sym (other at lt is)) old.stands;
           sound = old.sound;
           name_is = old.name_is;
-          first_is = old.first_is;
           place_is = old.place_is;
         }
 

@@ -169,7 +169,7 @@ module _ {D : Type 0} {facts : DiskFacts D} where
   -- a queue's audit
   pub audit-at : (held : Held D) (queue : QueueId) (x : ClusterQueue) (before later : List ℕ) → IsQueueAt queue held
       → slice_get held.queues.items (queue.0 - 1) ≡ Some x
-      → OfItsQueue x (λ (q : Queue). later ≡ before ++ audit_text x.label.name 0 (audit_rows q))
+      → OfItsQueue x (λ (q : Queue). later ≡ before ++ audit_text x.name 0 (audit_rows q))
       → (setup : Setup) (c : Cluster) → Stands facts setup held c
       → later ≡ before ++ audit_text (setup.name queue.0) 0 (audit_rows (c.queue queue.0))
   audit-at held queue x before later is here own setup c st =
@@ -180,7 +180,7 @@ module _ {D : Type 0} {facts : DiskFacts D} where
   -- of whatever nodes have these queues
   pub audit-over : (held : Held D) (queue : QueueId) (x : ClusterQueue) (before later : List ℕ) → IsQueueAt queue held
       → slice_get held.queues.items (queue.0 - 1) ≡ Some x
-      → OfItsQueue x (λ (q : Queue). later ≡ before ++ audit_text x.label.name 0 (audit_rows q))
+      → OfItsQueue x (λ (q : Queue). later ≡ before ++ audit_text x.name 0 (audit_rows q))
       → (setup : Setup) (c : Cluster) (other : Held D) → other.queues ≡ held.queues → Stands facts setup other c
       → later ≡ before ++ audit_text (setup.name queue.0) 0 (audit_rows (c.queue queue.0))
   audit-over held queue x before later is here own setup c other same st =
@@ -206,7 +206,7 @@ module _ {D : Type 0} {facts : DiskFacts D} where
       (before later : Outcome) → IsQueueAt queue held → slice_get held.queues.items (queue.0 - 1) ≡ Some x
       → slice_get held.nodes.items at ≡ Some y → has_queue queue.0 y.queues.items ≡ true
       → ((setup : Setup) (c : Cluster) → Stands facts setup held c → node.0 ≡ at + 1) → OfItsQueue x (λ (q : Queue).
-      later ≡ with_line (state_line x.label.name node.0 (q.group.seat node.0).server) before)
+      later ≡ with_line (state_line x.name node.0 (q.group.seat node.0).server) before)
       → (setup : Setup) (c : Cluster) → Stands facts setup held c
       → later ≡ with_line (member_text setup c queue.0 (at + 1)) before
   line-at held queue node at x y before later is here there has number own setup c st =

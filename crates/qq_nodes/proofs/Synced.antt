@@ -56,7 +56,7 @@ use Rattle.qq_nodes.proofs.Owned.{own-fail, own-sync}
 use Rattle.qq_nodes.proofs.Pumping.{rule-else, rule-if}
 use Rattle.qq_nodes.proofs.Quiet.{quiet-stopped, quiet-syncs}
 use Rattle.qq_nodes.proofs.Stands.{ends-now, same-logs, served-nothing, stands-logs}
-use Rattle.qq_nodes.proofs.Told.{place-here}
+use Rattle.qq_nodes.proofs.WaitsThere.{place-here}
 use Rattle.qq_nodes.proofs.Total.{Allowed, total-sync}
 use Rattle.qq_nodes.proofs.Outcomes.{same-outcome, line-outcome}
 

@@ -54,7 +54,7 @@ use Rattle.qq_nodes.proofs.Pumping.{rule-else, rule-if}
 use Rattle.qq_nodes.proofs.Quiet.{quiet-stopped, quiet-writes}
 use Rattle.qq_nodes.proofs.Stands.{ends-now, same-logs, served-nothing, served-still, stands-logs}
 use Rattle.qq_nodes.proofs.Taken.{apart-places, each-none, none-written, nothing-waits, some-written, taken-places, taken-waiting, waits_at}
-use Rattle.qq_nodes.proofs.Told.{place-here}
+use Rattle.qq_nodes.proofs.WaitsThere.{place-here}
 use Rattle.qq_nodes.proofs.Total.{Allowed, total-write}
 use Rattle.qq_nodes.proofs.Outcomes.{same-outcome, line-outcome}
 

@@ -1,5 +1,9 @@
 -- What comes of a verdict: it is given, and the consumer's session then gives the command that it is.
-use Rattle.std.specs.Prelude.{◌≡◌, ℕ, List, [], ◌∷◌, Option, Some, None, slice_get, slice_set}
+use Rattle.std.specs.Prelude.{◌≡◌, ℕ, List, [], ◌∷◌, Bool, Option, Some, None, nat_eq, slice_get, slice_set}
+use Rattle.qq_entry.specs.declared.answer.Delivery.{Delivery}
+use Rattle.qq_taker.specs.Seats.{taker_of}
+use Rattle.qq_taker.specs.Takers.{Takers, judge}
+use Rattle.qq_taker.specs.declared.seats.Seat.{Seat}
 use Rattle.qq_taker.specs.declared.handed.Handed.{Handed}
 use Rattle.qq_taker.specs.declared.taker.Verdict.{Verdict}
 use Rattle.qq_cluster.specs.Cluster.{At, Cluster, ClusterEvent}
@@ -7,10 +11,38 @@ use Rattle.qq_cluster.specs.Outcome.{Outcome}
 use Rattle.qq_cluster.specs.Queue.{Judges}
 use Rattle.qq_cluster.specs.Rules.{IsGiven, IsNothing}
 use Rattle.qq_cluster_queue.specs.ClusterQueue.{IsSameQueue}
-use Rattle.qq_cluster_queue.specs.Judging.{HasJudged, claim_of}
+use Rattle.qq_cluster_queue.specs.Judging.{claim_of}
 use Rattle.qq_cluster_queue.specs.Members.{AreSound}
+use Rattle.qq_cluster_queue.specs.Sessions.{Standings}
 use Rattle.qq_cluster_queue.specs.declared.cluster_queue.ClusterQueue.{ClusterQueue}
 use Rattle.qq_cluster_queue.specs.declared.claim.Claim.{Claim}
+use Rattle.qq_nodes.specs.Telling.{Does}
+
+-- ---- what a call does
+
+-- the taker of this number has given a verdict on a delivery; where there is none nobody was asked
+abbrev pub asked_by : Option ℕ → Delivery → Verdict → Takers → Takers
+asked_by None delivery verdict all = all
+asked_by (Some number) delivery verdict all = judge number delivery verdict all
+
+-- of the first delivery that waits, where one does
+abbrev pub IsAsked : List Seat → List Handed → Option Verdict → Outcome → Outcome → Type 0
+IsAsked seats [] answer before after = (answer ≡ None) × (after ≡ before)
+IsAsked seats (h ∷ more) answer before after =
+    (verdict : Verdict) × ((answer ≡ Some verdict)
+    × (after ≡ record before { takers = asked_by (taker_of h.consumer seats) h.delivery verdict before.takers }))
+
+-- the delivery has a verdict, and this is what follows
+pub record IsJudged (first : Bool) (h : Handed) (old new : ClusterQueue) (before after : Outcome) (claim : Option Claim)
+    : Type 0 where
+  pub verdict : Verdict
+  pub does : (sessions : Standings) → Does first (Judges verdict) sessions old new before after
+  pub claim_is : claim ≡ claim_of verdict h
+
+-- of the first delivery that waits, where one does
+abbrev pub HasJudged : Bool → List Handed → ClusterQueue → ClusterQueue → Outcome → Outcome → Option Claim → Type 0
+HasJudged first [] old new before after claim = (new ≡ old) × (after ≡ before) × (claim ≡ None)
+HasJudged first (h ∷ more) old new before after claim = IsJudged first h old new before after claim
 
 -- the first delivery that waits at the queue at an index was judged, and this command follows
 pub record JudgesAt (claim : Option Claim) (at : ℕ) (olds news : List ClusterQueue) (before after : Outcome)
@@ -21,7 +53,7 @@ pub record JudgesAt (claim : Option Claim) (at : ℕ) (olds news : List ClusterQ
   pub is : news ≡ slice_set olds at new
   pub sound : AreSound new.group
   pub same : IsSameQueue old new
-  pub judged : HasJudged old.untold old new before after claim
+  pub judged : HasJudged (nat_eq at 0) old.untold old new before after claim
 
 -- ---- the rules
 

@@ -1,5 +1,6 @@
 pub mod Active
-pub mod Asking
+pub mod Telling
+pub mod Happening
 pub mod Judging
 pub mod Ends
 pub mod Logs

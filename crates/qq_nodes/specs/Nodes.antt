@@ -11,7 +11,6 @@ use Rattle.qq_cluster.specs.Cluster.{Cluster, ClusterEvent, Setup, members}
 use Rattle.qq_cluster.specs.ClusterLaws.{HasGroups}
 use Rattle.qq_cluster.specs.Outcome.{Outcome}
 use Rattle.qq_cluster.specs.Rules.{ForEach, is_quiet}
-use Rattle.qq_cluster.specs.Texts.{is_first}
 use Rattle.qq_cluster_laws.specs.Linked.{IsReached, MembersFollow, lot_of, parts_at}
 use Rattle.qq_cluster_laws.specs.Waiting.{HasOwnGroups, all_waiting}
 use Rattle.qq_cluster_queue.specs.ClusterQueue.{Stands as IsQueue}
@@ -28,7 +27,7 @@ use Rattle.qq_raft_protocol.specs.Facts.{In}
 use Rattle.qq_cluster_laws.specs.Serves.{GivesUp, Leads, Seen, Serves, seen_of}
 use Rattle.qq_nodes.specs.Active.{is_in}
 use Rattle.qq_nodes.specs.Ends.{HasLog, IsAtEnd, IsRefusedAt}
-use Rattle.qq_nodes.specs.declared.asking.Ask.{Ask}
+use Rattle.qq_cluster_queue.specs.declared.event.QueueEvent.{QueueEvent}
 use Rattle.qq_nodes.specs.declared.node.Node.{Node}
 use Rattle.qq_nodes.specs.declared.nodes.Nodes.{Nodes as Held}
 
@@ -69,9 +68,8 @@ pub record IsSetUp (setup : Setup) (queue_count node_count : ℕ) : Type 0 where
 pub record IsQueueOf (setup : Setup) (sessions : Standings) (c : Cluster) (place : ℕ) (d : ClusterQueue) : Type 0 where
   pub stands : IsQueue sessions d (c.queue place)
   pub sound : AreSound d.group
-  pub name_is : d.label.name ≡ setup.name place
-  pub first_is : d.label.first ≡ is_first setup place
-  pub place_is : d.label.queue.0 ≡ place
+  pub name_is : d.name ≡ setup.name place
+  pub place_is : d.args.queue.0 ≡ place
 
 -- A node is the one of this number, and as it stands there. Where it is marked as empty it is down, and its log has nothing of
 -- its queues.
@@ -138,10 +136,10 @@ pub record Begins (Allows : Cluster → List ClusterEvent → Type 0) (c : Clust
     pub rest : List ClusterEvent
     pub allowed : Allows c (events ++ rest)
 
--- What the number is of: a queue that refuses what is asked of it; or a node's log, on whose disk a file is too long with
+-- What the number is of: a queue that refuses what is event_of of it; or a node's log, on whose disk a file is too long with
 -- the first of the ops that wait there, or has the last number that there is.
 pub data NumberAt {D : Type 0} (facts : DiskFacts D) (held : Held D) (number : ℕ) : Type 0 where
-  InQueue : (at : ℕ) (ask : Ask) → IsRefusedAt ask at held.queues.items (Spent number)
+  InQueue : (at : ℕ) (event : QueueEvent) → IsRefusedAt event at held.queues.items (Spent number)
       → NumberAt facts held number
   InFile : (at : ℕ) (own : NodeLog D) → HasLog at held own
       → ((setup : Setup) (c : Cluster) → IsReached setup c → Stands facts setup held c

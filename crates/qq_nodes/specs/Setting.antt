@@ -50,14 +50,12 @@ HaveDisks {D} facts disks held =
 -- ---- how they are made
 
 -- a queue is a row's, and its members are down; nothing is known of their logs
-pub record IsQueueFor (row : QueueRow) (first : Bool) (d : ClusterQueue) : Type 0 where
+pub record IsQueueFor (row : QueueRow) (d : ClusterQueue) : Type 0 where
   pub sound : AreSound d.group
   pub opens : Opens row.args row.members d
   pub args_is : d.args ≡ row.args
   pub nodes_is : d.group.nodes.items ≡ row.members
-  pub name_is : d.label.name ≡ row.name
-  pub first_is : d.label.first ≡ first
-  pub queue_is : d.label.queue ≡ row.args.queue
+  pub name_is : d.name ≡ row.name
   pub down : (k : ℕ) → server_at k d.group ≡ None
   pub begins : (logs : ℕ → List Op) → BeginsWith logs d
 
@@ -65,7 +63,7 @@ pub record IsQueueFor (row : QueueRow) (first : Bool) (d : ClusterQueue) : Type 
 pub record AreQueuesFor (rows : List QueueRow) (queues : List ClusterQueue) : Type 0 where
   pub count : length queues ≡ length rows
   pub each : (at : ℕ) (row : QueueRow) (d : ClusterQueue) → slice_get rows at ≡ Some row
-      → slice_get queues at ≡ Some d → IsQueueFor row (nat_eq at 0) d
+      → slice_get queues at ≡ Some d → IsQueueFor row d
 
 -- a node is one of these
 abbrev pub is_among : ℕ → List NodeId → Bool

@@ -1,17 +1,19 @@
-//! Takers are asked about what was handed out.
+//! Takers are event_of about what was handed out.
 ghost use Rattle.std.specs.Prelude.{◌≡◌, ◌<◌, ◌+◌, true, length, IfErr, IfOk, IfSome, IsOkUnless, OnOk};
 ghost use Rattle.qq_cluster.specs.Cluster.{Cluster, Setup};
 ghost use Rattle.qq_cluster.specs.Rules.{IsNextJudged, IsTold, Tells};
 ghost use Rattle.qq_cluster_queue.specs.Judging.{MayClaim};
 ghost use Rattle.qq_nodes.specs.Active.{is_in};
-ghost use Rattle.qq_nodes.specs.Asking.{MayAsk, asked};
+ghost use Rattle.qq_cluster_queue.specs.Events.{event_of};
+ghost use Rattle.qq_nodes.specs.Happening.{IsUnasked};
 ghost use Rattle.qq_nodes.specs.Judging.{IsClaimedBy, IsFollowed};
 ghost use Rattle.qq_nodes.specs.Nodes.{CanServe, GaveUp, Served, Stands};
 
-use crate::asking::{Ask, judge_in};
+use crate::happening::judge_in;
 use crate::nodes::Nodes;
+use crate::told::Told;
 use qq_base::Memory;
-use qq_cluster_queue::{Claim, Told};
+use qq_cluster_queue::{Claim, QueueEvent};
 use qq_disk::NodeDisk;
 use qq_taker::Taker;
 use std::alloc::Global;
@@ -26,7 +28,7 @@ impl<D: NodeDisk> Nodes<D> {
         self.queues[at].untold_count()
     }
 
-    // The taker of the first delivery that waits is asked, where one does. The answer is the command that follows.
+    // The taker of the first delivery that waits is event_of, where one does. The answer is the command that follows.
     fn judge<T: Taker>(
         &mut self,
         alloc: Global,
@@ -43,7 +45,7 @@ impl<D: NodeDisk> Nodes<D> {
         ensures nodes { self.new.nodes ≡ self.old.nodes }
         ensures want { IsOkUnless result Memory.Want }
     {
-        judge_in(&mut self.queues, alloc, at, told)
+        judge_in(&mut self.queues, alloc, &self.sessions, at, told)
     }
 
     // A session gives the command that follows a verdict, where there is one.
@@ -70,7 +72,7 @@ impl<D: NodeDisk> Nodes<D> {
         }
     }
 
-    // The taker of the first delivery that waits is asked, where one does, and its verdict is followed.
+    // The taker of the first delivery that waits is event_of, where one does, and its verdict is followed.
     fn judge_next<T: Taker>(
         &mut self,
         alloc: Global,
@@ -96,7 +98,7 @@ impl<D: NodeDisk> Nodes<D> {
         Ok(())
     }
 
-    // Takers are asked until no delivery of a queue waits.
+    // Takers are event_of until no delivery of a queue waits.
     fn judge_each<T: Taker>(
         &mut self,
         alloc: Global,
@@ -120,25 +122,25 @@ impl<D: NodeDisk> Nodes<D> {
         Ok(())
     }
 
-    // A queue that is active does what is asked of it, and takers are asked about what was handed out then.
+    // A queue that is active does what is event_of of it, and takers are event_of about what was handed out then.
     pub(crate) fn tell_active<T: Taker>(
         &mut self,
         alloc: Global,
         at: usize,
-        ask: Ask,
+        event: QueueEvent,
         told: &mut Told<T>,
     ) -> Result<(), Memory>
         requires serve { CanServe D.facts self.old }
         requires place { at < length self.old.queues.items }
         requires active { is_in at self.old.active ≡ true }
-        requires may { MayAsk ask }
-        ensures ok { OnOk result (Served D.facts (λ setup. Tells (at + 1) (asked ask))
+        requires may { IsUnasked event }
+        ensures ok { OnOk result (Served D.facts (λ setup. Tells (at + 1) (event_of event))
             self.old self.new told.old told.new) }
         ensures active { self.new.active ≡ self.old.active }
-        ensures err { IfErr result (GaveUp D.facts (λ setup. Tells (at + 1) (asked ask))
+        ensures err { IfErr result (GaveUp D.facts (λ setup. Tells (at + 1) (event_of event))
             self.old self.new) }
     {
-        if let Err(cause) = self.ask_active(alloc, at, ask, told) {
+        if let Err(cause) = self.happen_active(alloc, at, event, told) {
             return Err(cause);
         }
         if let Err(cause) = self.judge_each(alloc, at, told) {
@@ -152,21 +154,21 @@ impl<D: NodeDisk> Nodes<D> {
         &mut self,
         alloc: Global,
         at: usize,
-        ask: Ask,
+        event: QueueEvent,
         told: &mut Told<T>,
     ) -> Result<(), Memory>
         requires serve { CanServe D.facts self.old }
         requires place { at < length self.old.queues.items }
-        requires may { MayAsk ask }
-        ensures ok { OnOk result (Served D.facts (λ setup. Tells (at + 1) (asked ask))
+        requires may { IsUnasked event }
+        ensures ok { OnOk result (Served D.facts (λ setup. Tells (at + 1) (event_of event))
             self.old self.new told.old told.new) }
-        ensures err { IfErr result (GaveUp D.facts (λ setup. Tells (at + 1) (asked ask))
+        ensures err { IfErr result (GaveUp D.facts (λ setup. Tells (at + 1) (event_of event))
             self.old self.new) }
     {
         if let Err(cause) = self.wake(at) {
             return Err(cause);
         }
-        if let Err(cause) = self.tell_active(alloc, at, ask, told) {
+        if let Err(cause) = self.tell_active(alloc, at, event, told) {
             return Err(cause);
         }
         Ok(())

@@ -2,9 +2,9 @@
 #![tactic(auto)]
 
 mod active;
-mod asking;
 mod crashing;
 mod disks;
+mod happening;
 mod judging;
 mod lines;
 mod logs;
@@ -18,6 +18,7 @@ mod sending;
 mod showing;
 mod stopping;
 mod ticking;
+mod told;
 mod turning;
 mod writing;
 
@@ -25,3 +26,4 @@ pub use crashing::{crash_each, crash_node};
 pub use node::Node;
 pub use nodes::Nodes;
 pub use rounds::MOST_ROUNDS;
+pub use told::Told;

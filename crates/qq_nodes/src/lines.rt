@@ -7,13 +7,13 @@ ghost use Rattle.qq_cluster.specs.Queue.{Attaches, Downs, Notices, Ticks};
 ghost use Rattle.qq_cluster.specs.Rules.{ForEach, Is, IsEnd, IsGiven, IsSync, IsWrite, Tells, not_taken};
 ghost use Rattle.qq_cluster_queue.specs.Range.{MayStamp};
 ghost use Rattle.qq_nodes.specs.Active.{is_in};
-ghost use Rattle.qq_nodes.specs.Asking.{asked};
+ghost use Rattle.qq_cluster_queue.specs.Events.{event_of};
 ghost use Rattle.qq_nodes.specs.Nodes.{CanServe, GaveUp, IsNodeAt, IsQueueAt, Served, Stands};
 
-use crate::asking::Ask;
 use crate::nodes::Nodes;
+use crate::told::Told;
 use qq_base::{Memory, NodeId, QueueId};
-use qq_cluster_queue::{Told, sessions_are_those_of_each_queue};
+use qq_cluster_queue::{QueueEvent, sessions_are_those_of_each_queue};
 use qq_disk::NodeDisk;
 use qq_entry::Unstamped;
 use qq_taker::Taker;
@@ -53,12 +53,12 @@ impl<D: NodeDisk> Nodes<D> {
     {
         let ended = self.sessions.is_ended(session);
         if ended {
-            return self.ask_active(alloc, at, Ask::TellEnded { session }, told);
+            return self.happen_active(alloc, at, QueueEvent::TellEnded { session }, told);
         }
         if let Some(id) = self.not_taken(alloc, at, session, &body) {
-            return self.ask_active(alloc, at, Ask::TellNotTaken { session, id }, told);
+            return self.happen_active(alloc, at, QueueEvent::TellNotTaken { session, id }, told);
         }
-        self.ask_active(alloc, at, Ask::Submit { session, body }, told)
+        self.happen_active(alloc, at, QueueEvent::Submit { session, body }, told)
     }
 
     // The same at any queue.
@@ -158,18 +158,18 @@ impl<D: NodeDisk> Nodes<D> {
         ensures err { IfErr result (GaveUp D.facts
             (λ setup. Is (At queue.0 (Attaches session tag number))) self.old self.new) }
     {
-        let ask = Ask::Attach {
+        let event = QueueEvent::Attach {
             session,
             tag,
             number,
         };
-        if let Err(cause) = self.ask(alloc, queue.0 as usize - 1, ask, told) {
+        if let Err(cause) = self.happen(alloc, queue.0 as usize - 1, event, told) {
             return Err(cause);
         }
         Ok(())
     }
 
-    /// A queue's member on a node learns what is synced of it, and takers are asked about what that hands out; of a
+    /// A queue's member on a node learns what is synced of it, and takers are event_of about what that hands out; of a
     /// node that is down that is said.
     pub fn notice<T: Taker>(
         &mut self,
@@ -194,7 +194,12 @@ impl<D: NodeDisk> Nodes<D> {
             }
             return Ok(());
         }
-        if let Err(cause) = self.tell(alloc, queue.0 as usize - 1, Ask::Notice { node }, told) {
+        if let Err(cause) = self.tell(
+            alloc,
+            queue.0 as usize - 1,
+            QueueEvent::Notice { node },
+            told,
+        ) {
             return Err(cause);
         }
         Ok(())
@@ -224,7 +229,12 @@ impl<D: NodeDisk> Nodes<D> {
             }
             return Ok(());
         }
-        if let Err(cause) = self.ask(alloc, queue.0 as usize - 1, Ask::Tick { node }, told) {
+        if let Err(cause) = self.happen(
+            alloc,
+            queue.0 as usize - 1,
+            QueueEvent::Tick { node },
+            told,
+        ) {
             return Err(cause);
         }
         Ok(())
@@ -328,7 +338,7 @@ impl<D: NodeDisk> Nodes<D> {
     {
         let count = self.queues.len();
         'places: for at in 0..count {
-            if let Err(cause) = self.ask(alloc, at, Ask::Down { session }, told) {
+            if let Err(cause) = self.happen(alloc, at, QueueEvent::Down { session }, told) {
                 return Err(cause);
             }
         }

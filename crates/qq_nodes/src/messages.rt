@@ -3,13 +3,14 @@ ghost use Rattle.std.specs.Prelude.{◌≡◌, ◌<◌, ◌+◌, ◌-◌, length
 ghost use Rattle.qq_cluster.specs.Cluster.{Cluster, Setup};
 ghost use Rattle.qq_cluster.specs.Lines.{IsCopy, IsDeliver, IsDelivered, IsLose, WhereThere, receiver_at};
 ghost use Rattle.qq_cluster_queue.specs.Members.{number_of};
-ghost use Rattle.qq_nodes.specs.Asking.{MayAsk, asked};
+ghost use Rattle.qq_cluster_queue.specs.Events.{event_of};
+ghost use Rattle.qq_nodes.specs.Happening.{IsUnasked};
 ghost use Rattle.qq_nodes.specs.Nodes.{CanServe, GaveUp, IsNodeAt, IsQueueAt, Served, Stands};
 
-use crate::asking::Ask;
 use crate::nodes::Nodes;
+use crate::told::Told;
 use qq_base::{Memory, NodeId, QueueId};
-use qq_cluster_queue::Told;
+use qq_cluster_queue::QueueEvent;
 use qq_disk::NodeDisk;
 use qq_group_laws::a_message_is_from_one_member_to_another;
 use qq_taker::Taker;
@@ -30,23 +31,23 @@ impl<D: NodeDisk> Nodes<D> {
     }
 
     // An event of a message, or it is said that there is none.
-    fn ask_where_there<T: Taker>(
+    fn happen_where_there<T: Taker>(
         &mut self,
         alloc: Global,
         at: usize,
         message: u32,
-        ask: Ask,
+        event: QueueEvent,
         told: &mut Told<T>,
     ) -> Result<(), Memory>
         requires serve { CanServe D.facts self.old }
         requires place { at < length self.old.queues.items }
         requires message { 0 < message }
-        requires may { MayAsk ask }
+        requires may { IsUnasked event }
         ensures ok { OnOk result (Served D.facts (λ (setup : Setup) (c : Cluster).
-            WhereThere (receiver_at c (at + 1) (message - 1)) (asked ask) (at + 1) c)
+            WhereThere (receiver_at c (at + 1) (message - 1)) (event_of event) (at + 1) c)
             self.old self.new told.old told.new) }
         ensures err { IfErr result (GaveUp D.facts (λ (setup : Setup) (c : Cluster).
-            WhereThere (receiver_at c (at + 1) (message - 1)) (asked ask) (at + 1) c)
+            WhereThere (receiver_at c (at + 1) (message - 1)) (event_of event) (at + 1) c)
             self.old self.new) }
     {
         let there = self.receiver(at, message).is_some();
@@ -56,7 +57,7 @@ impl<D: NodeDisk> Nodes<D> {
             }
             return Ok(());
         }
-        if let Err(cause) = self.ask(alloc, at, ask, told) {
+        if let Err(cause) = self.happen(alloc, at, event, told) {
             return Err(cause);
         }
         Ok(())
@@ -82,7 +83,7 @@ impl<D: NodeDisk> Nodes<D> {
             (λ (setup : Setup). IsDelivered (at + 1) (message - 1) (number_of (Some node)))
             self.old self.new) }
     {
-        if let Err(cause) = self.tell(alloc, at, Ask::Deliver { message }, told) {
+        if let Err(cause) = self.tell(alloc, at, QueueEvent::Deliver { place: message }, told) {
             return Err(cause);
         }
         let up = self.is_up(node);
@@ -152,7 +153,13 @@ impl<D: NodeDisk> Nodes<D> {
             return Ok(());
         }
         let at = queue.0 as usize - 1;
-        if let Err(cause) = self.ask_where_there(alloc, at, message, Ask::Lose { message }, told) {
+        if let Err(cause) = self.happen_where_there(
+            alloc,
+            at,
+            message,
+            QueueEvent::Lose { place: message },
+            told,
+        ) {
             return Err(cause);
         }
         Ok(())
@@ -180,7 +187,13 @@ impl<D: NodeDisk> Nodes<D> {
             return Ok(());
         }
         let at = queue.0 as usize - 1;
-        if let Err(cause) = self.ask_where_there(alloc, at, message, Ask::Copy { message }, told) {
+        if let Err(cause) = self.happen_where_there(
+            alloc,
+            at,
+            message,
+            QueueEvent::Copy { place: message },
+            told,
+        ) {
             return Err(cause);
         }
         Ok(())

@@ -19,15 +19,15 @@ use qq_route::QueueRow;
 use std::alloc::Global;
 
 // A queue whose members are down.
-fn new_queue(alloc: Global, row: &QueueRow, first: bool) -> Result<ClusterQueue, Memory>
+fn new_queue(alloc: Global, row: &QueueRow) -> Result<ClusterQueue, Memory>
     requires row { IsRow row.now }
     requires distinct { AreDistinct row.now.members }
-    ensures ok { IfOk result (IsQueueFor row.now first) }
+    ensures ok { IfOk result (IsQueueFor row.now) }
     ensures want { IsOkUnless result Memory.Want }
 {
     events_reach_groups();
     let (args, name) = both(row.args.copy(alloc), row.name.copy(alloc))?;
-    let queue = ClusterQueue::new(alloc, args, name, first, row.members.as_slice())?;
+    let queue = ClusterQueue::new(alloc, args, name, row.members.as_slice())?;
     Ok(queue)
 }
 
@@ -41,7 +41,7 @@ fn new_queues(alloc: Global, rows: &[QueueRow]) -> Result<Vec<ClusterQueue>, Mem
     let mut queues = Vec::new(alloc);
     let count = rows.len();
     'rows: for at in 0..count {
-        let queue = new_queue(alloc, &rows[at], at == 0)?;
+        let queue = new_queue(alloc, &rows[at])?;
         queues.push(queue)?;
     }
     Ok(queues)

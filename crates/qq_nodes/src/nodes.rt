@@ -6,16 +6,18 @@ ghost use Rattle.qq_cluster.specs.Outcome.{Outcome};
 ghost use Rattle.qq_cluster.specs.Rules.{Is, IsNothing, is_quiet_at, waits_noticed};
 ghost use Rattle.qq_cluster_laws.specs.Linked.{IsReached};
 ghost use Rattle.qq_nodes.specs.Active.{is_in};
-ghost use Rattle.qq_nodes.specs.Asking.{MayAsk, asked};
+ghost use Rattle.qq_cluster_queue.specs.Events.{event_of};
+ghost use Rattle.qq_nodes.specs.Happening.{IsUnasked};
 ghost use Rattle.qq_nodes.specs.Nodes.{CanServe, GaveUp, IsNodeAt, Served, Stands};
 ghost use Rattle.qq_nodes.specs.Showing.{with_line};
 
 use crate::active::Active;
-use crate::asking::{Ask, ask_in};
+use crate::happening::happen_in;
 use crate::node::Node;
+use crate::told::Told;
 use itoa::Buffer;
 use qq_base::{Memory, NodeId};
-use qq_cluster_queue::{ClusterQueue, Sessions, Told, a_refusal_tells_an_end};
+use qq_cluster_queue::{ClusterQueue, QueueEvent, Sessions, a_refusal_tells_an_end};
 use qq_disk::NodeDisk;
 use qq_taker::Taker;
 use std::alloc::Global;
@@ -131,49 +133,49 @@ impl<D: NodeDisk> Nodes<D> {
         self.active.add(at)
     }
 
-    // A queue that is active does what is asked of it.
+    // A queue that is active does what is event_of of it.
     #[inline(always)]
-    pub(crate) fn ask_active<T: Taker>(
+    pub(crate) fn happen_active<T: Taker>(
         &mut self,
         alloc: Global,
         at: usize,
-        ask: Ask,
+        event: QueueEvent,
         told: &mut Told<T>,
     ) -> Result<(), Memory>
         requires serve { CanServe D.facts self.old }
         requires place { at < length self.old.queues.items }
         requires active { is_in at self.old.active ≡ true }
-        requires may { MayAsk ask }
-        ensures ok { OnOk result (Served D.facts (λ setup. Is (At (at + 1) (asked ask)))
+        requires may { IsUnasked event }
+        ensures ok { OnOk result (Served D.facts (λ setup. Is (At (at + 1) (event_of event)))
             self.old self.new told.old told.new) }
         ensures active { self.new.active ≡ self.old.active }
-        ensures err { IfErr result (GaveUp D.facts (λ setup. Is (At (at + 1) (asked ask)))
+        ensures err { IfErr result (GaveUp D.facts (λ setup. Is (At (at + 1) (event_of event)))
             self.old self.new) }
     {
         a_refusal_tells_an_end();
-        ask_in(&mut self.queues, alloc, &self.sessions, at, ask, told)
+        happen_in(&mut self.queues, alloc, &self.sessions, at, event, told)
     }
 
-    // A queue does what is asked of it.
-    pub(crate) fn ask<T: Taker>(
+    // A queue does what is event_of of it.
+    pub(crate) fn happen<T: Taker>(
         &mut self,
         alloc: Global,
         at: usize,
-        ask: Ask,
+        event: QueueEvent,
         told: &mut Told<T>,
     ) -> Result<(), Memory>
         requires serve { CanServe D.facts self.old }
         requires place { at < length self.old.queues.items }
-        requires may { MayAsk ask }
-        ensures ok { OnOk result (Served D.facts (λ setup. Is (At (at + 1) (asked ask)))
+        requires may { IsUnasked event }
+        ensures ok { OnOk result (Served D.facts (λ setup. Is (At (at + 1) (event_of event)))
             self.old self.new told.old told.new) }
-        ensures err { IfErr result (GaveUp D.facts (λ setup. Is (At (at + 1) (asked ask)))
+        ensures err { IfErr result (GaveUp D.facts (λ setup. Is (At (at + 1) (event_of event)))
             self.old self.new) }
     {
         if let Err(cause) = self.wake(at) {
             return Err(cause);
         }
-        if let Err(cause) = self.ask_active(alloc, at, ask, told) {
+        if let Err(cause) = self.happen_active(alloc, at, event, told) {
             return Err(cause);
         }
         Ok(())

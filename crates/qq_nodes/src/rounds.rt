@@ -8,10 +8,10 @@ ghost use Rattle.qq_cluster_laws.specs.Linked.{IsReached};
 ghost use Rattle.qq_nodes.specs.Active.{is_in};
 ghost use Rattle.qq_nodes.specs.Nodes.{CanServe, GaveUp, IsNodeAt, Served, Stands};
 
-use crate::asking::Ask;
 use crate::nodes::Nodes;
+use crate::told::Told;
 use qq_base::{Memory, NodeId};
-use qq_cluster_queue::Told;
+use qq_cluster_queue::QueueEvent;
 use qq_disk::NodeDisk;
 use qq_taker::Taker;
 use std::alloc::Global;
@@ -42,7 +42,7 @@ impl<D: NodeDisk> Nodes<D> {
         if !waits {
             return Ok(());
         }
-        if let Err(cause) = self.tell_active(alloc, at, Ask::Notice { node }, told) {
+        if let Err(cause) = self.tell_active(alloc, at, QueueEvent::Notice { node }, told) {
             return Err(cause);
         }
         Ok(())
@@ -92,7 +92,12 @@ impl<D: NodeDisk> Nodes<D> {
     {
         let count = self.messages(at);
         'messages: for message in 0..count {
-            if let Err(cause) = self.tell_active(alloc, at, Ask::Deliver { message: 1 }, told) {
+            if let Err(cause) = self.tell_active(
+                alloc,
+                at,
+                QueueEvent::Deliver { place: 1 },
+                told,
+            ) {
                 return Err(cause);
             }
         }
@@ -263,7 +268,7 @@ impl<D: NodeDisk> Nodes<D> {
         Ok(())
     }
 
-    // A pump follows, unless it is to be asked for.
+    // A pump follows, unless it is to be event_of for.
     pub(crate) fn pumped<T: Taker>(
         &mut self,
         alloc: Global,

@@ -8,10 +8,10 @@ ghost use Rattle.qq_cluster_queue.specs.Range.{MayStamp};
 ghost use Rattle.qq_nodes.specs.Nodes.{CanServe, GaveUp, IsQueueAt, Served};
 ghost use Rattle.qq_nodes.specs.Sending.{GivesTo, Sends, numbers_of};
 
-use crate::asking::Ask;
 use crate::nodes::Nodes;
+use crate::told::Told;
 use qq_base::{Duplicate, Memory, QueueId};
-use qq_cluster_queue::Told;
+use qq_cluster_queue::QueueEvent;
 use qq_disk::NodeDisk;
 use qq_entry::Unstamped;
 use qq_taker::Taker;
@@ -137,7 +137,7 @@ impl<D: NodeDisk> Nodes<D> {
     {
         let count = self.queues.len();
         'places: for at in 0..count {
-            if let Err(cause) = self.ask(alloc, at, Ask::Resend { session }, told) {
+            if let Err(cause) = self.happen(alloc, at, QueueEvent::Resend { session }, told) {
                 return Err(cause);
             }
         }
@@ -161,7 +161,7 @@ impl<D: NodeDisk> Nodes<D> {
     {
         let count = self.queues.len();
         'places: for at in 0..count {
-            if let Err(cause) = self.tell(alloc, at, Ask::Fetch { session }, told) {
+            if let Err(cause) = self.tell(alloc, at, QueueEvent::Fetch { session }, told) {
                 return Err(cause);
             }
         }

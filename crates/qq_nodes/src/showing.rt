@@ -14,8 +14,8 @@ ghost use Rattle.qq_nodes.specs.Showing.{has_queue, member_text, with_line};
 ghost use Rattle.qq_nodes.specs.declared.nodes.Nodes.{Nodes as Held};
 
 use crate::nodes::Nodes;
+use crate::told::Told;
 use qq_base::{Memory, QueueId};
-use qq_cluster_queue::Told;
 use qq_disk::NodeDisk;
 use qq_taker::Taker;
 use std::alloc::Global;
@@ -48,7 +48,9 @@ impl<D: NodeDisk> Nodes<D> {
         if !here {
             return Ok(());
         }
-        self.queues[queue.0 as usize - 1].state_text(alloc, node, told)
+        let mut line = Vec::new(alloc);
+        self.queues[queue.0 as usize - 1].state_text(alloc, node, &mut line)?;
+        told.write(line.as_slice())
     }
 
     /// Adds the states of a queue's members, in order of their nodes. The only error is `Memory::Want`, out of memory.

@@ -4,10 +4,10 @@ ghost use Rattle.qq_cluster.specs.Cluster.{Setup};
 ghost use Rattle.qq_cluster.specs.Rules.{ForEach, IsFirstTick};
 ghost use Rattle.qq_nodes.specs.Nodes.{CanServe, GaveUp, Served};
 
-use crate::asking::Ask;
 use crate::nodes::Nodes;
+use crate::told::Told;
 use qq_base::Memory;
-use qq_cluster_queue::Told;
+use qq_cluster_queue::QueueEvent;
 use qq_disk::NodeDisk;
 use qq_taker::Taker;
 use std::alloc::Global;
@@ -31,7 +31,7 @@ impl<D: NodeDisk> Nodes<D> {
         let Some(node) = first else {
             return Ok(());
         };
-        if let Err(cause) = self.ask(alloc, at, Ask::Tick { node }, told) {
+        if let Err(cause) = self.happen(alloc, at, QueueEvent::Tick { node }, told) {
             return Err(cause);
         }
         Ok(())

@@ -11,9 +11,9 @@ ghost use Rattle.qq_nodes.specs.Turning.{HasStopped};
 
 use crate::logs::{append_in, down_in, sync_in};
 use crate::nodes::{Nodes, add_node_line};
+use crate::told::Told;
 use qq_base::{Memory, NodeId};
 use qq_cluster_laws::what_waits_goes_on;
-use qq_cluster_queue::Told;
 use qq_disk::NodeDisk;
 use qq_node_log::SyncOutcome;
 use qq_taker::Taker;

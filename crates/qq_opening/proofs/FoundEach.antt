@@ -48,7 +48,7 @@ use Rattle.qq_nodes.proofs.OwnStands.{QueuesOf}
 use Rattle.qq_nodes.proofs.Pumping.{rule-else}
 use Rattle.qq_nodes.proofs.Synced.{from-list, in-filter}
 use Rattle.qq_nodes.proofs.Taken.{apart-places}
-use Rattle.qq_nodes.proofs.Told.{place-here}
+use Rattle.qq_nodes.proofs.WaitsThere.{place-here}
 use Rattle.qq_nodes.proofs.Turned.{within-length}
 use Rattle.qq_nodes.proofs.Walks.{from-range}
 
@@ -322,9 +322,8 @@ module _ {D : Type 0} {facts : DiskFacts D} (setup : Setup) (c : Cluster) (k : �
                       many (takes.does (standings held.sessions) (c.queue (i + 1)) old.stands
                       (fits y here (i + 1) own.0.number));
                   sound = takes.sound;
-                  name_is = ap (λ l. l.name) takes.same.label_is ∙ old.name_is;
-                  first_is = ap (λ l. l.first) takes.same.label_is ∙ old.first_is;
-                  place_is = ap (λ l. l.queue.0) takes.same.label_is ∙ old.place_is;
+                  name_is = takes.same.name_is ∙ old.name_is;
+                  place_is = ap (λ a. a.queue.0) takes.same.args_is ∙ old.place_is;
                 }
             ways (inr (none, same)) =
                 let out = outside setup c k (i + 1) st.set_up.groups r (no-member i b.old b.was none) in
@@ -333,7 +332,6 @@ module _ {D : Type 0} {facts : DiskFacts D} (setup : Setup) (c : Cluster) (k : �
                       (sym (not-found k (ops (i + 1)) (c.queue (i + 1)) out.not_member)) old.stands;
                   sound = old.sound;
                   name_is = old.name_is;
-                  first_is = old.first_is;
                   place_is = old.place_is;
                 })
 

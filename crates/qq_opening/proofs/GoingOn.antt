@@ -36,7 +36,7 @@ use Rattle.qq_nodes.proofs.Items.{queues-sound}
 use Rattle.qq_nodes.proofs.OneQueue.{set-long}
 use Rattle.qq_nodes.proofs.OwnStands.{node-was, set-here}
 use Rattle.qq_nodes.proofs.Taken.{apart-places}
-use Rattle.qq_nodes.proofs.Told.{own-node}
+use Rattle.qq_nodes.proofs.WaitsThere.{own-node}
 use Rattle.qq_nodes.proofs.Walks.{from-range}
 use Rattle.qq_opening.proofs.FoundLanes.{lanes-long}
 

@@ -54,7 +54,7 @@ use Rattle.qq_nodes.proofs.Stands.{ends-now, stands-logs}
 use Rattle.qq_nodes.proofs.Owned.{own-fail}
 use Rattle.qq_nodes.proofs.Pumping.{rule-else}
 use Rattle.qq_nodes.proofs.Quiet.{quiet-stopped}
-use Rattle.qq_nodes.proofs.Told.{place-here}
+use Rattle.qq_nodes.proofs.WaitsThere.{place-here}
 use Rattle.qq_nodes.proofs.Turned.{within-length}
 
 -- ---- what may begin a restart
@@ -190,7 +190,6 @@ module _ {D : Type 0} {facts : DiskFacts D} (node : NodeId) (old left : Held D) 
                 own.stands;
             sound = own.sound;
             name_is = own.name_is;
-            first_is = own.first_is;
             place_is = own.place_is;
           }
 

@@ -11,9 +11,8 @@ use crate::restarting::RestartFault;
 use crate::stepping::recover_node;
 use qq_base::NodeId;
 use qq_cluster::a_queue_may_begin_with_new_logs;
-use qq_cluster_queue::Told;
 use qq_disk::NodeDisk;
-use qq_nodes::Nodes;
+use qq_nodes::{Nodes, Told};
 use qq_taker::Taker;
 use std::alloc::Global;
 

@@ -7,9 +7,8 @@ ghost use Rattle.qq_nodes.specs.Nodes.{CanServe, Served, Stands};
 ghost use Rattle.qq_opening.specs.Restarting.{IsReopening, Refuses, all_nodes};
 
 use crate::restarting::{RestartFault, restart_each};
-use qq_cluster_queue::Told;
 use qq_disk::NodeDisk;
-use qq_nodes::Nodes;
+use qq_nodes::{Nodes, Told};
 use qq_taker::Taker;
 use std::alloc::Global;
 

@@ -7,9 +7,8 @@ ghost use Rattle.qq_opening.specs.Restarting.{Refuses, all_nodes, this_node};
 
 use crate::stepping::recover_node;
 use qq_base::{Memory, NodeId, QueueId};
-use qq_cluster_queue::Told;
 use qq_disk::{FileName, NodeDisk};
-use qq_nodes::Nodes;
+use qq_nodes::{Nodes, Told};
 use qq_taker::Taker;
 use std::alloc::Global;
 use thiserror::Error;

@@ -23,7 +23,8 @@ use Rattle.qq_raft_model.specs.State.{Server, last, term_at}
 use Rattle.qq_cluster.specs.Queue.{Queue, Delivers, after, all_said, own_rows}
 use Rattle.qq_cluster.proofs.Groups.{after-append}
 use Rattle.qq_session.specs.Clients.{Clients, printed}
-use Rattle.qq_session.specs.Shown.{Answered, Shown}
+use Rattle.qq_session.specs.declared.shown.Shown.{Shown}
+use Rattle.qq_session.specs.declared.shown.Shown.TheVariants.{Answered}
 use Rattle.qq_progress.specs.Alone.{round_alone, turns}
 use Rattle.qq_progress.proofs.Answering.{HaveAnswered, IsAnswering, all-answered, none-pends, still-busy}
 use Rattle.qq_progress.proofs.Calm.{all-calm}

@@ -13,7 +13,8 @@ use Rattle.qq_raft_model.specs.State.{Server}
 use Rattle.qq_cluster.specs.Queue.{Queue, Event, Delivers, after, all_said, own_rows}
 use Rattle.qq_cluster.proofs.Groups.{after-append}
 use Rattle.qq_session.specs.Clients.{Clients, printed}
-use Rattle.qq_session.specs.Shown.{Answered, Shown}
+use Rattle.qq_session.specs.declared.shown.Shown.{Shown}
+use Rattle.qq_session.specs.declared.shown.Shown.TheVariants.{Answered}
 use Rattle.qq_progress.specs.Alone.{round_alone, turn as turn_of, turn_where, turns}
 use Rattle.qq_progress.proofs.Answering.{HaveAnswered, IsAnswering, answers-quiet}
 use Rattle.qq_progress.proofs.Committing.{HasCommitted, IsSending}

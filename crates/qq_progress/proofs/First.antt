@@ -17,7 +17,7 @@ use Rattle.qq_raft_model.specs.Promises.{WasLeft}
 use Rattle.qq_raft_model.specs.State.{Server}
 use Rattle.qq_script_lines.specs.declared.line.ScriptLine.{ScriptLine}
 use Rattle.qq_session.specs.Publishing.{next_command, stamped}
-use Rattle.qq_session.specs.Shown.{Answered}
+use Rattle.qq_session.specs.declared.shown.Shown.TheVariants.{Answered}
 use Rattle.qq_session.specs.Clients.{Client, may_hand, new_client}
 use Rattle.qq_cluster.specs.Cluster.{At, Cluster, ClusterEvent, Of, Setup, all_prints, cluster_after, cluster_happens, new_cluster}
 use Rattle.qq_cluster.specs.ClusterLaws.{HasGroups, has_failure}

@@ -3,7 +3,7 @@ use Rattle.std.proofs.Common.{◌≡◌, ◌⊎◌, ℕ, zero, suc, Bool, true, 
 use Rattle.std.specs.Prelude.{replicate}
 use Rattle.std.specs.List.{AllByRecursion}
 use Rattle.qq_base.proofs.Lists.{AllByRecursion-append}
-use Rattle.qq_session.specs.Shown.{Shown}
+use Rattle.qq_session.specs.declared.shown.Shown.{Shown}
 use Rattle.qq_cluster.specs.Queue.{Queue, Event, Delivers, Notices, Syncs, Writes, after, all_said, effects_told, handed_out, happens, said, seats_after}
 use Rattle.qq_cluster.specs.Rules.{waits_noticed}
 use Rattle.qq_cluster.specs.Taking.{waiting_then}

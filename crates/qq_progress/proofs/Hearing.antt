@@ -21,7 +21,9 @@ use Rattle.qq_raft_model.specs.State.{Server, is_leader, last, term_at}
 use Rattle.qq_cluster.specs.Queue.{Queue, Delivers, after, all_said, happens, own_effects, own_rows, rows_told, said}
 use Rattle.qq_cluster.proofs.Takerless.{told-answers}
 use Rattle.qq_session.specs.Clients.{Clients, hear_all, printed}
-use Rattle.qq_session.specs.Shown.{Answered, Shown, effects_of_term}
+use Rattle.qq_session.specs.declared.shown.Shown.{Shown}
+use Rattle.qq_session.specs.declared.shown.Shown.TheVariants.{Answered}
+use Rattle.qq_session.specs.Shown.{effects_of_term}
 use Rattle.qq_entry.specs.declared.audit.Effect.{Effect}
 use Rattle.qq_model.specs.Audit.{state_after}
 use Rattle.qq_model.specs.State.{empty_queue}

@@ -26,7 +26,8 @@ use Rattle.qq_raft_model.specs.State.{Server}
 use Rattle.qq_script_lines.specs.declared.line.ScriptLine.{ScriptLine}
 use Rattle.qq_session.specs.Publishing.{Numbers, OpenCommand, hand, is_open, next_stamp}
 use Rattle.qq_session.specs.Clients.{Client, Clients, may_hand}
-use Rattle.qq_session.specs.Shown.{Answered, Shown}
+use Rattle.qq_session.specs.declared.shown.Shown.{Shown}
+use Rattle.qq_session.specs.declared.shown.Shown.TheVariants.{Answered}
 use Rattle.qq_session.proofs.Audits.{audit-front}
 use Rattle.qq_session.proofs.NumberingLemmas.{stamped-stamp}
 use Rattle.qq_session.proofs.PrintedAnswers.{front-contains}

@@ -21,7 +21,7 @@ use Rattle.qq_cluster.specs.Rules.{ForEach, IsEmptied, IsNodeRound, IsNothing, I
 use Rattle.qq_cluster.proofs.Counts.{IsCounted, counted-all}
 use Rattle.qq_cluster.proofs.Groups.{after-append}
 use Rattle.qq_cluster.proofs.Takerless.{AreAt, GivesNone, IsAt, IsTakerless, at-elsewhere, at-other, at-own, at-up, delivered-still, emptied-at, queue-at, takerless-all, tells-at, told-nothing, untold-still}
-use Rattle.qq_session.specs.Shown.{Shown}
+use Rattle.qq_session.specs.declared.shown.Shown.{Shown}
 use Rattle.qq_progress.specs.Alone.{round_alone, turn_where, turns}
 use Rattle.qq_progress.specs.Soon.{AreOnce}
 use Rattle.qq_progress.proofs.Hearing.{contains-map}

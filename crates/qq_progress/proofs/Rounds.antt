@@ -12,7 +12,8 @@ use Rattle.qq_raft_model.specs.State.{Server}
 use Rattle.qq_cluster.specs.Queue.{Queue, Event, after, all_said, own_effects, own_rows}
 use Rattle.qq_cluster.proofs.Groups.{after-append}
 use Rattle.qq_session.specs.Clients.{Clients, hear_all, printed}
-use Rattle.qq_session.specs.Shown.{Answered, Shown}
+use Rattle.qq_session.specs.declared.shown.Shown.{Shown}
+use Rattle.qq_session.specs.declared.shown.Shown.TheVariants.{Answered}
 use Rattle.qq_entry.specs.declared.queue.QueueArgs.{QueueArgs}
 use Rattle.qq_progress.specs.Soon.{AreOnce}
 use Rattle.qq_progress.specs.Alone.{turn, turn_where, turns}

@@ -19,7 +19,8 @@ use Rattle.qq_cluster.specs.Queue.{Queue, Event, Notices, Syncs, Writes, after, 
 use Rattle.qq_cluster.specs.Rules.{waits_noticed}
 use Rattle.qq_cluster.proofs.Takerless.{told-answers}
 use Rattle.qq_session.specs.Clients.{hear_all, printed}
-use Rattle.qq_session.specs.Shown.{Answered, Shown}
+use Rattle.qq_session.specs.declared.shown.Shown.{Shown}
+use Rattle.qq_session.specs.declared.shown.Shown.TheVariants.{Answered}
 use Rattle.qq_progress.specs.Alone.{turn}
 use Rattle.qq_progress.proofs.Feeding.{Feeds, FeedsOne, effects-told, fed, feeds-one, rows-told}
 use Rattle.qq_progress.proofs.Following.{AllQuiet, IsQuiet, QuietBefore, notices-quiet, syncs-quiet, writes-quiet}

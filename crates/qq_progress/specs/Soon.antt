@@ -17,7 +17,7 @@ use Rattle.qq_script_lines.specs.declared.line.ScriptLine.{ScriptLine}
 use Rattle.qq_script_lines.specs.declared.line.ScriptLine.TheVariants as lines
 use Rattle.qq_session.specs.Publishing.{next_command}
 use Rattle.qq_session.specs.Clients.{may_hand}
-use Rattle.qq_session.specs.Shown.{Answered}
+use Rattle.qq_session.specs.declared.shown.Shown.TheVariants.{Answered}
 use Rattle.qq_cluster.specs.Cluster.{Setup, Cluster, ClusterEvent, At, Of, all_prints, cluster_after, members}
 use Rattle.qq_cluster.specs.Lines.{publish_with}
 use Rattle.qq_cluster.specs.Queue.{Queue, Submits, audit_rows, leader}

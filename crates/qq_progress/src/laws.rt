@@ -8,7 +8,7 @@ ghost use Rattle.qq_raft_model.specs.State.{Server};
 ghost use Rattle.qq_raft_protocol.specs.Facts.{In};
 ghost use Rattle.qq_script_lines.specs.declared.line.ScriptLine.{ScriptLine};
 ghost use Rattle.qq_session.specs.Publishing.{stamped};
-ghost use Rattle.qq_session.specs.Shown.{Answered};
+ghost use Rattle.qq_session.specs.declared.shown.Shown.TheVariants.{Answered};
 ghost use Rattle.qq_cluster.specs.Cluster.{At, Cluster, ClusterEvent, Of, Setup, all_prints, cluster_after, cluster_happens, new_cluster};
 ghost use Rattle.qq_cluster.specs.ClusterLaws.{HasGroups, has_failure};
 ghost use Rattle.qq_cluster.specs.Lines.{IsLine};

@@ -1,7 +1,7 @@
 use Rattle.qq_base.proofs.Lists.{AllByRecursion-in}
 use Rattle.qq_model.proofs.Soundness.{in_contains}
 use Rattle.qq_session.specs.Printed.{IsAnswer, IsAudited}
-use Rattle.qq_session.specs.Shown.{Answered, Delivered, Taken}
+use Rattle.qq_session.specs.declared.shown.Shown.TheVariants.{Answered, Delivered, Taken}
 use Rattle.qq_cluster.specs.Cluster.{Of, all_prints, cluster_after, new_cluster}
 use Rattle.qq_cluster.specs.ClusterLaws.{IsTrueOf}
 use Rattle.qq_cluster.specs.Laws.{queue_after}

@@ -5,14 +5,14 @@ use Rattle.qq_cluster_queue.proofs.Verdicts.{attach-does, busy-does}
 use Rattle.qq_cluster_queue.proofs.cluster_queue.ClusterQueue.attach.Goals as goal
 
 pub returns-in-Some-clause-ok : goal.returns-in-Some-clause-ok
-returns-in-Some-clause-ok g c = λ sessions q st.
+returns-in-Some-clause-ok c = λ sessions q st.
     let id : SessionId → ConsumerId = λ session. record { session = session; tag = c.args.tag } in
-    busy-does sessions c.args.self.now q c.args.session c.args.tag c.args.number c.in-Some.other (id c.client.result)
-    c.args.told.now c.busy.new.self st (ap id c.client.ensures) c.in-Some.ensures c.in_default-busy.ensures.ok
+    busy-does sessions c.args.self.now q c.args.session c.args.tag c.args.number c.in-Some.number (id c.client.result)
+    c.args.shown.now.items c.push.new.self.items st (ap id c.client.ensures) c.in-Some.ensures c.in_ok-push.ensures
 
 pub returns-clause-ok : goal.returns-clause-ok
-returns-clause-ok g c = λ sessions q st.
+returns-clause-ok c = λ sessions q st.
     let id : SessionId → ConsumerId = λ session. record { session = session; tag = c.args.tag } in
     attach-does sessions c.args.self.now q c.args.session c.args.tag c.args.number (id c.client.result) c.sit.new.self
-    c.args.told.now c.attached.new.self st (ap id c.client.ensures) (sym c.in_default.is ∙ c.taker_of.ensures)
-    c.in_default-sit.ensures.ok c.attached.ensures
+    c.args.shown.now.items c.push-2.new.self.items st (ap id c.client.ensures) (sym c.in_default.is ∙ c.taker_of.ensures)
+    c.in_ok-sit.ensures.ok c.in_ok-push-2.ensures

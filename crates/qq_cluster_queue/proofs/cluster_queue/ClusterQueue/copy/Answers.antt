@@ -10,4 +10,4 @@ pub returns-clause-ok : goal.returns-clause-ok
 returns-clause-ok c =
     plain-becomes (Copies (c.args.place - 1)) (move_at Copy c.args.place) c.args.self.now
     (record c.args.self.now { group = c.happen.new.group })
-    (copy-plain c.args.place c.requires.place) c.in_default.ensures.ok refl refl refl refl refl refl
+    (copy-plain c.args.place c.requires.place) c.in_ok-happen.ensures.ok refl refl refl refl refl refl

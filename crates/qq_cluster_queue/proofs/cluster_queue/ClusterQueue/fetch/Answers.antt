@@ -1,4 +1,4 @@
-use Rattle.std.proofs.Common.{refl, ap, ◌∙◌}
+use Rattle.std.proofs.Common.{ap, ◌∙◌}
 use Rattle.qq_base.specs.declared.ids.SessionId.{SessionId}
 use Rattle.qq_parts.specs.Parts.{Parts}
 use Rattle.qq_cluster_queue.specs.Fetching.{fetched_all}
@@ -7,25 +7,18 @@ use Rattle.qq_cluster_queue.proofs.Asking.{fetch-does, silent-does}
 use Rattle.qq_cluster_queue.proofs.cluster_queue.ClusterQueue.fetch.Goals as goal
 
 pub returns-in_default-clause-ok : goal.returns-in_default-clause-ok
-returns-in_default-clause-ok g c = λ q st.
-    silent-does (standings c.args.sessions.now) c.args.self.now q c.args.session c.args.told.now st
+returns-in_default-clause-ok c = λ q st.
+    silent-does (standings c.args.sessions.now) c.args.self.now q c.args.session c.args.shown.now.items st
     c.in_default.ensures
 
 pub returns-clause-ok : goal.returns-clause-ok
-returns-clause-ok g c = λ q st.
+returns-clause-ok c = λ q st.
     fetch-does c.what_is_committed_stays_in_the_audit.ensures.known c.what_a_group_committed_stays.ensures.commit
     c.parts_tell_the_queue.ensures c.deliveries_end.ensures (standings c.args.sessions.now) c.args.self.now
-    (record c.args.self.now { consumers = c.tell_effects.new.consumers; untold = c.tell_effects.new.untold }) q
-    c.args.session c.in-Some.leader
-    c.in-Some-machine.queue.now c.as_slice.result.now c.args.told.now c.tell_effects.new.told st
+    c.hand_out.new.self q c.args.session c.in-Some.leader c.in-Some-machine.queue.now c.as_slice.result.now
+    c.args.shown.now.items c.hand_out.new.shown.items st
     c.in-Some.ensures c.in-Some-machine.ensures
-    (c.as_slice.ensures.value ∙ c.in-Ok.ensures.ok
+    (c.as_slice.ensures.value ∙ c.in_ok-effects.ensures.ok
     ∙ ap (λ (m : Parts). fetched_all m c.client-id.result c.args.self.now.consumers) c.machine-machine.ensures
     ∙ ap (λ (id : SessionId). fetched_all c.in-Some-machine.queue.now.machine id c.args.self.now.consumers)
-    c.client-id.ensures) refl refl refl refl
-    (record {
-      came = c.in_default-tell_effects.ensures.came;
-      seats = refl;
-      untold = c.in_default-tell_effects.ensures.untold;
-      said = c.in_default-tell_effects.ensures.said;
-    })
+    c.client-id.ensures) c.in_ok-hand_out.ensures.ok

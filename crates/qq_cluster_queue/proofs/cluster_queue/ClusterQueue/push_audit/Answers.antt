@@ -12,7 +12,7 @@ use Rattle.qq_cluster_queue.proofs.cluster_queue.ClusterQueue.push_audit.Goals a
 
 pub returns-clause-ok : goal.returns-clause-ok
 returns-clause-ok c =
-    audit-shown row_text (audit_head_text c.args.self.now.label.name 0) (audit_text c.args.self.now.label.name 0)
+    audit-shown row_text (audit_head_text c.args.self.now.name 0) (audit_text c.args.self.now.name 0)
     (λ rows. refl) c.args.self.now c.audit-entries.result.now c.args.out.now.items c.audit_head_text.new.out.items
     c.push_rows.new.out.items _ c.audit-entries.ensures refl c.in_default.ensures.ok
     (c.in_default-push_rows.ensures.ok (empty_queue c.args.self.now.args) c.requires.stands)

@@ -15,4 +15,4 @@ returns-clause-ok c =
       takers_are = λ q. record { seats = refl; untold = waits-nothing q.untold q.seats };
       synced_is = λ q. refl;
       silent = λ q. tells-nothing q.untold q.seats;
-    }) c.in_default.ensures.ok refl refl refl refl refl refl
+    }) c.in_ok-happen.ensures.ok refl refl refl refl refl refl

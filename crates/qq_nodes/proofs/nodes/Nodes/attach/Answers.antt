@@ -4,8 +4,8 @@ use Rattle.qq_cluster.specs.Rules.{Is}
 use Rattle.qq_nodes.proofs.LineRules.{at-queue, at-queue_gave_up, queue-index}
 use Rattle.qq_nodes.proofs.nodes.Nodes.attach.Goals as goal
 
-pub ask-requires-clause-place : goal.ask-requires-clause-place
-ask-requires-clause-place g c = queue-index c.args.self.now c.args.queue c.requires.queue
+pub happen-requires-clause-place : goal.happen-requires-clause-place
+happen-requires-clause-place g c = queue-index c.args.self.now c.args.queue c.requires.queue
 
 pub returns-clause-ok : goal.returns-clause-ok
 returns-clause-ok g c =

@@ -14,11 +14,11 @@ places-init g c =
     each-start places_in (λ (setup : Setup) place. Is (At place (Downs c.args.session))) c.args.self.now
     c.args.told.now
 
-pub ask-requires-clause-serve : goal.ask-requires-clause-serve
-ask-requires-clause-serve g c = can-after c.requires.serve c.places.invariant
+pub happen-requires-clause-serve : goal.happen-requires-clause-serve
+happen-requires-clause-serve g c = can-after c.requires.serve c.places.invariant
 
-pub ask-requires-clause-place : goal.ask-requires-clause-place
-ask-requires-clause-place g c =
+pub happen-requires-clause-place : goal.happen-requires-clause-place
+happen-requires-clause-place g c =
     let many = (many-after c.requires.serve c.places.invariant).0 in omega (arith, many, c.len-count.ensures)
 
 pub places-preserved : goal.places-preserved

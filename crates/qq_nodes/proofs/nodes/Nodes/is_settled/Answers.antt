@@ -1,7 +1,7 @@
 use Rattle.std.proofs.Common.{◌+◌, ◌∙◌}
 use Rattle.qq_cluster_queue.specs.Sessions.{standings}
 use Rattle.qq_nodes.proofs.Items.{item-here}
-use Rattle.qq_nodes.proofs.Told.{settled-told_at}
+use Rattle.qq_nodes.proofs.WaitsThere.{settled-told_at}
 use Rattle.qq_nodes.proofs.nodes.Nodes.is_settled.Goals as goal
 
 pub is_settled-requires : goal.is_settled-requires

@@ -6,18 +6,18 @@ use Rattle.qq_nodes.proofs.OnTheWay.{happens-there, lose-is, no-message, there-g
 use Rattle.qq_nodes.proofs.Stands.{gave_up-same}
 use Rattle.qq_nodes.proofs.nodes.Nodes.lose.Goals as goal
 
-pub ask_where_there-requires-clause-place : goal.ask_where_there-requires-clause-place
-ask_where_there-requires-clause-place g c = queue-index c.args.self.now c.args.queue c.requires.queue
+pub happen_where_there-requires-clause-place : goal.happen_where_there-requires-clause-place
+happen_where_there-requires-clause-place g c = queue-index c.args.self.now c.args.queue c.requires.queue
 
 pub returns-clause-ok : goal.returns-clause-ok
 returns-clause-ok g c =
     happens-there IsLose Loses lose-is c.args.queue c.args.message c.requires.queue.0 (omega arith)
-    c.in_default-ask_where_there.ensures.ok
+    c.in_default-happen_where_there.ensures.ok
 
-pub returns-in-Err-ask_where_there-clause-err : goal.returns-in-Err-ask_where_there-clause-err
-returns-in-Err-ask_where_there-clause-err g c =
+pub returns-in-Err-happen_where_there-clause-err : goal.returns-in-Err-happen_where_there-clause-err
+returns-in-Err-happen_where_there-clause-err g c =
     there-gave_up_line IsLose Loses lose-is c.args.queue c.args.message c.requires.queue.0 (omega arith)
-    c.in-Err-ask_where_there.ensures.err
+    c.in-Err-happen_where_there.ensures.err
 
 pub returns-in-Err-clause-err : goal.returns-in-Err-clause-err
 returns-in-Err-clause-err g c = gave_up-same c.args.self.now c.args.self.now c.in-Err.cause refl c.in-Err.ensures.want

@@ -13,7 +13,7 @@ judge_each-requires-clause-place g c =
     let many = (many-after c.requires.serve c.in_default.ensures.ok).0 in omega (arith, many, c.requires.place)
 
 pub judge_each-requires-clause-active : goal.judge_each-requires-clause-active
-judge_each-requires-clause-active g c = ap (is_in c.args.at) c.ask_active.ensures.active ∙ c.requires.active
+judge_each-requires-clause-active g c = ap (is_in c.args.at) c.happen_active.ensures.active ∙ c.requires.active
 
 pub returns-clause-ok : goal.returns-clause-ok
 returns-clause-ok g c = served-then c.in_default.ensures.ok c.in_default-judge_each.ensures.ok

@@ -23,4 +23,4 @@ returns-clause-ok g c =
     ticks c.args.at c.in-Some.node c.index.result.now
     (item-here c.args.self.now.queues.items c.args.at _ c.requires.place c.index.ensures)
     (ap (λ l. slice_get l 0) (sym c.members.ensures) ∙ sym c.first.ensures.value ∙ sym c.in-Some.ensures)
-    c.in_default-ask.ensures.ok
+    c.in_default-happen.ensures.ok

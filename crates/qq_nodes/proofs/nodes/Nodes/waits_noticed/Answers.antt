@@ -1,7 +1,7 @@
 use Rattle.std.proofs.Common.{◌+◌, ◌∙◌}
 use Rattle.qq_cluster_queue.specs.Sessions.{standings}
 use Rattle.qq_nodes.proofs.Items.{item-here}
-use Rattle.qq_nodes.proofs.Told.{noticed-told_at}
+use Rattle.qq_nodes.proofs.WaitsThere.{noticed-told_at}
 use Rattle.qq_nodes.proofs.nodes.Nodes.waits_noticed.Goals as goal
 
 pub waits_noticed-requires : goal.waits_noticed-requires
