@@ -92,15 +92,13 @@ queues-none = record { count = refl; each = λ at row d here there. absurd (none
     none at row is = absurd cc
 
 pub queues-more : (rows : List QueueRow) (at : ℕ) (row : QueueRow) (queues all : List ClusterQueue) (d : ClusterQueue)
-    → slice_get rows at ≡ Some row → AreQueuesFor (take at rows) queues → IsQueueFor row (nat_eq at 0) d
+    → slice_get rows at ≡ Some row → AreQueuesFor (take at rows) queues → IsQueueFor row d
     → all ≡ queues ++ d ∷ [] → AreQueuesFor (take (at + 1) rows) all
 queues-more rows at row queues all d here are own is =
     subst (AreQueuesFor (take (at + 1) rows)) (sym is)
     (subst (λ (l : List QueueRow). AreQueuesFor l (queues ++ d ∷ [])) (sym taken) (record {
       count = one-more queues (take at rows) d row are.count;
-      each = pairs-more (λ (i : ℕ) r q. IsQueueFor r (nat_eq i 0) q) (take at rows) queues row d are.count are.each
-          (subst (λ (i : ℕ). IsQueueFor row (nat_eq i 0) d)
-          (sym (long rows at (slice_get_within rows at row here))) own);
+      each = pairs-more (λ (i : ℕ) r q. IsQueueFor r q) (take at rows) queues row d are.count are.each own;
     }))
   where
     long : {A : Type 0} (xs : List A) (i : ℕ) → i < length xs → length (take i xs) ≡ i

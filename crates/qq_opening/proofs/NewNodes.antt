@@ -111,13 +111,13 @@ module _ {D : Type 0} {facts : DiskFacts D} (rows : List QueueRow) (old : Held D
     queue_count = refl;
     left = λ i le. refl;
     opened = λ i own lt here. absurd (omega (arith, lt));
-    queues = λ i row d here there. queue-none row (nat_eq i 0) d (new.queues.each i row d here there);
+    queues = λ i row d here there. queue-none row d (new.queues.each i row d here there);
     disks = λ k low high. absurd (omega (arith, low, high));
   }
     where
-      queue-none : (row : QueueRow) (first : Bool) (d : ClusterQueue) → IsQueueFor row first d
+      queue-none : (row : QueueRow) (d : ClusterQueue) → IsQueueFor row d
           → IsOpenedQueue row (λ k. None) 0 d
-      queue-none row first d own = record {
+      queue-none row d own = record {
         sound = own.sound;
         args_is = own.args_is;
         nodes_is = own.nodes_is;
