@@ -1,6 +1,6 @@
 //! The nodes of a drill serve its parts.
 ghost use Rattle.std.specs.Prelude.{◌≡◌, ◌≤◌, ◌∷◌, [], List, Some, Contains, IfErr, IfOk, IfSome, IsOkUnless, OnOk, map};
-ghost use Rattle.qq_cluster.specs.Outcome.{deliveries_among};
+ghost use Rattle.qq_cluster_model.specs.Outcome.{deliveries_among};
 ghost use Rattle.qq_cluster_run.specs.Drilling.{Known, is_led, tell};
 ghost use Rattle.qq_cluster_run.specs.Drills.{StopsNext};
 ghost use Rattle.qq_cluster_run.specs.Playing.{Knows};
@@ -13,10 +13,10 @@ ghost use Rattle.qq_broker.specs.Nodes.{Holds, MayRun, Meets};
 use crate::serving::serve_free;
 use crate::stopping::step_stop;
 use qq_base::Memory;
-use qq_cluster::who_listens_hears_what_is_told;
+use qq_cluster_model::who_listens_hears_what_is_told;
 use qq_cluster_run::{AskStop, Part, Play, is_named, is_place};
 use qq_disk::NodeDisk;
-use qq_nodes::{Nodes, Told};
+use qq_cluster::{Nodes, Told};
 use qq_ports::Yard;
 use qq_route::Setup;
 use qq_script_lines::ScriptLine;

@@ -2,7 +2,7 @@
 ghost use Rattle.std.specs.Prelude.{◌≡◌, ◌≤◌, [], All, IfErr, IfOk, IsOkUnless, OnErr, OnOk, length, option_map, vec_capacity};
 ghost use Rattle.qq_cluster_run.specs.Runs.{MayNotOpen, ending_of, stop_of};
 ghost use Rattle.qq_cluster_run.specs.Service.{HasOpened};
-ghost use Rattle.qq_nodes.specs.Setting.{HaveDisks, IsWhole};
+ghost use Rattle.qq_cluster.specs.Setting.{HaveDisks, IsWhole};
 ghost use Rattle.qq_broker.specs.Lives.{Giving, under};
 ghost use Rattle.qq_broker.specs.Nodes.{Had, Holds, MayRun, Meets};
 ghost use Rattle.qq_broker.specs.Serving.{AreGiven, AreUnopened, IsYardEnding, yard_ending};
@@ -11,7 +11,7 @@ use crate::stopping::restart_stop;
 use qq_base::{Memory, NodeId, Text};
 use qq_cluster_run::{Ending, Stop, clusters_begin_with_new_logs};
 use qq_disk::NodeDisk;
-use qq_nodes::{Nodes, Told};
+use qq_cluster::{Nodes, Told};
 use qq_opening::open as open_nodes;
 use qq_ports::{Yard, YardFault};
 use qq_recover::these_disks_may_be_recovered;

@@ -24,7 +24,7 @@ use qq_cluster_run::status::{DONE, WRITE_FAULT};
 use qq_cluster_run::{
     AskStop, Ending, LINES_LIMIT, PrintFault, Stop, ask, refuse_long_line, set_up, write_made,
 };
-use qq_nodes::{Nodes, Told};
+use qq_cluster::{Nodes, Told};
 use qq_ports::{LineFault, Lines, Shelf, Sink, Source, Yard, lines_law, next_line, write_all};
 use qq_route::Setup;
 use qq_taker::{Desk, Taker};

@@ -6,9 +6,9 @@ ghost use Rattle.qq_log.specs.declared.op.Op.{Op};
 ghost use Rattle.qq_log.specs.Op.{queue};
 ghost use Rattle.qq_log.specs.Stable.{Stable, stable};
 ghost use Rattle.qq_lots.specs.Lots.{give, give_batch, ids_of};
-ghost use Rattle.qq_cluster.specs.Cluster.{Cluster, Setup};
-ghost use Rattle.qq_cluster.specs.ClusterLaws.{HasGroups};
-ghost use Rattle.qq_cluster.specs.Queue.{Queue, Writes, happens};
+ghost use Rattle.qq_cluster_model.specs.Cluster.{Cluster, Setup};
+ghost use Rattle.qq_cluster_model.specs.ClusterLaws.{HasGroups};
+ghost use Rattle.qq_cluster_model.specs.Queue.{Queue, Writes, happens};
 ghost use Rattle.qq_cluster_laws.specs.Linked.{IsReached, lot_of, part_at, parts_at};
 ghost use Rattle.qq_cluster_laws.specs.Waiting.{AllWait, AreApart, HasOwnGroups, IsChangeOf, all_waiting, ops_waiting, ops_with_waiting};
 

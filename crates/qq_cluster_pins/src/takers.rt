@@ -14,10 +14,10 @@ ghost use Rattle.qq_taker.specs.declared.handed.Handed.{Handed};
 ghost use Rattle.qq_taker.specs.declared.seats.Seat.{Seat};
 ghost use Rattle.qq_taker.specs.declared.taker.Verdict.{Verdict};
 ghost use Rattle.qq_taker.specs.declared.taker.Verdict.TheVariants.{Discard, Keep, Return, Settle};
-ghost use Rattle.qq_cluster.specs.Cluster.{At, Cluster, ClusterEvent, cluster_after, cluster_happens};
-ghost use Rattle.qq_cluster.specs.Queue.{Attaches, Event, Judges, Queue, happens, said};
-ghost use Rattle.qq_cluster.specs.Rules.{IsGiven, IsNextJudged, IsTold, Tells, Times};
-ghost use Rattle.qq_cluster.specs.Taking.{answers, seated, told_of, told_then, waiting_of, waiting_then};
+ghost use Rattle.qq_cluster_model.specs.Cluster.{At, Cluster, ClusterEvent, cluster_after, cluster_happens};
+ghost use Rattle.qq_cluster_model.specs.Queue.{Attaches, Event, Judges, Queue, happens, said};
+ghost use Rattle.qq_cluster_model.specs.Rules.{IsGiven, IsNextJudged, IsTold, Tells, Times};
+ghost use Rattle.qq_cluster_model.specs.Taking.{answers, seated, told_of, told_then, waiting_of, waiting_then};
 
 /// A law: what is handed out is told up to the first delivery whose consumer has a taker, and the others wait.
 ///

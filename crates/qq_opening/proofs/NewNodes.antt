@@ -14,15 +14,15 @@ use Rattle.qq_node_log.specs.declared.node_log.NodeLog.TheVariants.{Closed}
 use Rattle.qq_raft_model.specs.Group.{has_node}
 use Rattle.qq_raft_protocol.specs.Facts.{In}
 use Rattle.qq_route.specs.declared.queue_row.QueueRow.{QueueRow}
-use Rattle.qq_cluster.specs.Cluster.{Setup, new_cluster}
+use Rattle.qq_cluster_model.specs.Cluster.{Setup, new_cluster}
 use Rattle.qq_cluster_laws.specs.Linked.{lot_of}
-use Rattle.qq_cluster_queue.specs.Members.{AreSound}
-use Rattle.qq_cluster_queue.specs.declared.cluster_queue.ClusterQueue.{ClusterQueue}
-use Rattle.qq_nodes.specs.Nodes.{IsNodeAt, Stands}
-use Rattle.qq_nodes.specs.Setting.{AreNew, IsNewNode, IsQueueFor, IsSetupOver, IsWhole, ids_on, is_among}
-use Rattle.qq_nodes.specs.declared.node.Node.{Node}
-use Rattle.qq_nodes.specs.declared.nodes.Nodes.{Nodes as Held}
-use Rattle.qq_nodes.proofs.Begun.{ids-are, item-at, new-stands}
+use Rattle.qq_queue.specs.Members.{AreSound}
+use Rattle.qq_queue.specs.declared.cluster_queue.ClusterQueue.{ClusterQueue}
+use Rattle.qq_cluster.specs.Nodes.{IsNodeAt, Stands}
+use Rattle.qq_cluster.specs.Setting.{AreNew, IsNewNode, IsQueueFor, IsSetupOver, IsWhole, ids_on, is_among}
+use Rattle.qq_cluster.specs.declared.node.Node.{Node}
+use Rattle.qq_cluster.specs.declared.nodes.Nodes.{Nodes as Held}
+use Rattle.qq_cluster.proofs.Begun.{ids-are, item-at, new-stands}
 use Rattle.qq_opening.specs.Opened.{AreOpened, IsOpenedQueue}
 use Rattle.qq_opening.specs.Taking.{MayStep, MayTakeAt, MayTakeEach, index_of}
 use Rattle.qq_opening.proofs.FoundEach.{own-distinct, own-low}

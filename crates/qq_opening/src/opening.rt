@@ -1,6 +1,6 @@
 //! The nodes of a cluster are opened over their disks.
 ghost use Rattle.std.specs.Prelude.{◌≡◌, ◌<◌, ◌||◌, List, IfErr, IfOk, length};
-ghost use Rattle.qq_nodes.specs.Setting.{AreNew};
+ghost use Rattle.qq_cluster.specs.Setting.{AreNew};
 ghost use Rattle.qq_opening.specs.Opened.{IsMarked, OpenedTo};
 ghost use Rattle.qq_opening.specs.Opening.{MayNotOpen, OpensOver};
 ghost use Rattle.qq_route.specs.declared.queue_row.QueueRow.{QueueRow as Row};
@@ -10,9 +10,9 @@ use crate::marking::mark_in;
 use crate::restarting::RestartFault;
 use crate::stepping::recover_node;
 use qq_base::NodeId;
-use qq_cluster::a_queue_may_begin_with_new_logs;
+use qq_cluster_model::a_queue_may_begin_with_new_logs;
 use qq_disk::NodeDisk;
-use qq_nodes::{Nodes, Told};
+use qq_cluster::{Nodes, Told};
 use qq_taker::Taker;
 use std::alloc::Global;
 

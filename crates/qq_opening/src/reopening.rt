@@ -1,14 +1,14 @@
 //! The nodes of a cluster that was opened before are opened again, all of them.
 ghost use Rattle.std.specs.Prelude.{◌≡◌, IfErr, IfOk};
 ghost use Rattle.std.specs.List.{list_any};
-ghost use Rattle.qq_cluster.specs.Cluster.{Cluster, Setup};
-ghost use Rattle.qq_cluster.specs.Rules.{IsOpening};
-ghost use Rattle.qq_nodes.specs.Nodes.{CanServe, Served, Stands};
+ghost use Rattle.qq_cluster_model.specs.Cluster.{Cluster, Setup};
+ghost use Rattle.qq_cluster_model.specs.Rules.{IsOpening};
+ghost use Rattle.qq_cluster.specs.Nodes.{CanServe, Served, Stands};
 ghost use Rattle.qq_opening.specs.Restarting.{IsReopening, Refuses, all_nodes};
 
 use crate::restarting::{RestartFault, restart_each};
 use qq_disk::NodeDisk;
-use qq_nodes::{Nodes, Told};
+use qq_cluster::{Nodes, Told};
 use qq_taker::Taker;
 use std::alloc::Global;
 

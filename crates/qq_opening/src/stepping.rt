@@ -1,8 +1,8 @@
 //! A node that is down is recovered, and its members go on with what was found.
 ghost use Rattle.std.specs.Prelude.{◌≡◌, ◌<◌, length, slice_get, IfErr, IfOk, OnErr, OnOk, Some};
 ghost use Rattle.qq_node_log.specs.Found.{AreDistinct};
-ghost use Rattle.qq_nodes.specs.Logs.{NodeTurns};
-ghost use Rattle.qq_nodes.specs.declared.node.Node.{Node as NodeOf};
+ghost use Rattle.qq_cluster.specs.Logs.{NodeTurns};
+ghost use Rattle.qq_cluster.specs.declared.node.Node.{Node as NodeOf};
 ghost use Rattle.qq_opening.specs.Taking.{AreLanesAt, FailsToRecover, GoesOn, MayGoOn, MayNotStep, MayRecover, MayStep, Recovers, StaysDown, Steps};
 
 use crate::marking::mark_in;
@@ -12,7 +12,7 @@ use qq_base::NodeId;
 use qq_disk::NodeDisk;
 use qq_log::Lane;
 use qq_node_log::{Found, NodeLog, recover_log};
-use qq_nodes::{Node, Nodes, Told};
+use qq_cluster::{Node, Nodes, Told};
 use qq_recover::RecoverFault;
 use qq_taker::Taker;
 use std::alloc::Global;

@@ -1,6 +1,6 @@
 use Rattle.std.proofs.Common.{All, sym, subst}
 use Rattle.qq_base.specs.declared.ids.QueueId.{QueueId}
-use Rattle.qq_nodes.specs.Nodes.{IsQueueAt}
+use Rattle.qq_cluster.specs.Nodes.{IsQueueAt}
 use Rattle.qq_route.specs.Destinations.{listed}
 use Rattle.qq_broker.proofs.Asked.{sent, sent-in-vain}
 use Rattle.qq_broker.proofs.GoingOn.{can-serve, targets-at}

@@ -1,5 +1,5 @@
 use Rattle.std.proofs.Common.{ap, ◌∙◌}
-use Rattle.qq_nodes.proofs.Stands.{can-after}
+use Rattle.qq_cluster.proofs.Stands.{can-after}
 use Rattle.qq_broker.specs.Broker.{is_done}
 use Rattle.qq_broker.specs.Calling.{outcome_heard}
 use Rattle.qq_broker.proofs.Calls.{stops-first, stops-second}

@@ -1,7 +1,7 @@
 use Rattle.std.proofs.Common.{ap, ◌∙◌}
 use Rattle.std.proofs.lemmas.Result.{IfOk-weaker}
-use Rattle.qq_cluster_queue.specs.Tally.{count_rows}
-use Rattle.qq_cluster_queue.specs.declared.tally.Tally.{Tally}
+use Rattle.qq_queue.specs.Tally.{count_rows}
+use Rattle.qq_queue.specs.declared.tally.Tally.{Tally}
 use Rattle.qq_cluster_run.specs.Drilling.{all_rows}
 use Rattle.qq_cluster_run.specs.Serving.{cluster_in, setup_in}
 use Rattle.qq_broker.proofs.DrillAudits.{line-is}

@@ -1,5 +1,5 @@
 use Rattle.std.proofs.Common.{length}
-use Rattle.qq_nodes.proofs.Stands.{can-after}
+use Rattle.qq_cluster.proofs.Stands.{can-after}
 use Rattle.qq_opening.proofs.NewNodes.{sound-each}
 use Rattle.qq_opening.proofs.Opened.{opens-served, pump-gave_up, ticks-gave_up}
 use Rattle.qq_opening.proofs.OpenedAll.{can-open, opens-gave_up, opens-over}

@@ -1,4 +1,4 @@
-use Rattle.qq_nodes.proofs.Stands.{can-after}
+use Rattle.qq_cluster.proofs.Stands.{can-after}
 use Rattle.qq_opening.proofs.Opened.{opens-served, pump-gave_up, ticks-gave_up}
 use Rattle.qq_opening.proofs.Reopened.{reopens, reopens-gave_up, reopens-refuses}
 use Rattle.qq_opening.proofs.reopening.reopen.Goals as goal

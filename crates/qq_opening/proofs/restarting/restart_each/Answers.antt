@@ -1,6 +1,6 @@
 use Rattle.std.proofs.Common.{arith}
-use Rattle.qq_nodes.proofs.Pumping.{many-after, node-of}
-use Rattle.qq_nodes.proofs.Stands.{can-after}
+use Rattle.qq_cluster.proofs.Pumping.{many-after, node-of}
+use Rattle.qq_cluster.proofs.Stands.{can-after}
 use Rattle.qq_opening.proofs.RefusedEach.{refuses-each}
 use Rattle.qq_opening.proofs.RestartedEach.{first-all, first-next, first-none}
 use Rattle.qq_opening.proofs.restarting.restart_each.Goals as goal

@@ -1,5 +1,5 @@
 use Rattle.std.proofs.Common.{arith, refl, subst, sym}
-use Rattle.qq_nodes.proofs.Items.{node-here}
+use Rattle.qq_cluster.proofs.Items.{node-here}
 use Rattle.qq_node_log.specs.Found.{AreDistinct}
 use Rattle.qq_opening.specs.Taking.{MayTakeEach}
 use Rattle.qq_opening.proofs.GoingOn.{goes-on, stays-down}

@@ -1,0 +1,28 @@
+use Rattle.std.proofs.Common.{refl, arith}
+use Rattle.qq_cluster_model.specs.Lines.{IsCopy}
+use Rattle.qq_cluster_model.specs.Queue.{Copies}
+use Rattle.qq_cluster.proofs.LineRules.{queue-index}
+use Rattle.qq_cluster.proofs.OnTheWay.{happens-there, copy-is, no-message, there-gave_up_line}
+use Rattle.qq_cluster.proofs.Stands.{gave_up-same}
+use Rattle.qq_cluster.proofs.nodes.Nodes.copy.Goals as goal
+
+pub happen_where_there-requires-clause-place : goal.happen_where_there-requires-clause-place
+happen_where_there-requires-clause-place g c = queue-index c.args.self.now c.args.queue c.requires.queue
+
+pub returns-clause-ok : goal.returns-clause-ok
+returns-clause-ok g c =
+    happens-there IsCopy Copies copy-is c.args.queue c.args.message c.requires.queue.0 (omega arith)
+    c.in_default-happen_where_there.ensures.ok
+
+pub returns-in-Err-happen_where_there-clause-err : goal.returns-in-Err-happen_where_there-clause-err
+returns-in-Err-happen_where_there-clause-err g c =
+    there-gave_up_line IsCopy Copies copy-is c.args.queue c.args.message c.requires.queue.0 (omega arith)
+    c.in-Err-happen_where_there.ensures.err
+
+pub returns-in-Err-clause-err : goal.returns-in-Err-clause-err
+returns-in-Err-clause-err g c = gave_up-same c.args.self.now c.args.self.now c.in-Err.cause refl c.in-Err.ensures.want
+
+pub returns-then-message-eq0-clause-ok : goal.returns-then-message-eq0-clause-ok
+returns-then-message-eq0-clause-ok g c =
+    no-message c.args.message IsCopy c.args.queue.0 (omega arith) (λ d events said. said)
+    c.in_default.ensures.ok
