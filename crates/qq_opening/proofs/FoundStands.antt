@@ -15,7 +15,7 @@ use Rattle.qq_raft_core.specs.Raft.{IsInLog, IsWithinEnds}
 use Rattle.qq_raft_core.specs.declared.lanes.Lanes.{Lanes}
 use Rattle.qq_raft_model.specs.Group.{Group as GroupState, Seat as SeatState, has_node, is_down, may_restart}
 use Rattle.qq_raft_model.specs.Handing.{plain_state}
-use Rattle.qq_raft_queues.specs.declared.machine_queue.MachineQueue.{MachineQueue}
+use Rattle.qq_queue.specs.declared.machine_queue.MachineQueue.{MachineQueue}
 use Rattle.qq_recover.specs.State.{IsSoundEntry, IsWithinEnds as IsLaneWithin}
 use Rattle.qq_group.specs.Follows.{OthersStay}
 use Rattle.qq_group.specs.Group.{IsSeat, IsSeatBy, KnowsLeft, Represents, server_at, server_by}

@@ -11,7 +11,7 @@ use Rattle.qq_log.specs.Log.{LogState}
 use Rattle.qq_log.specs.declared.lane.Lane.{Lane}
 use Rattle.qq_raft_model.specs.Group.{Group as GroupState, Seat as SeatState, has_node}
 use Rattle.qq_raft_protocol.specs.Facts.{In}
-use Rattle.qq_raft_queues.specs.declared.machine_queue.MachineQueue.{MachineQueue}
+use Rattle.qq_queue.specs.declared.machine_queue.MachineQueue.{MachineQueue}
 use Rattle.qq_group.specs.Group.{IsSeat, IsSeatBy, Represents, server_at, server_by}
 use Rattle.qq_group.specs.declared.seat.Seat.{Seat}
 use Rattle.qq_cluster_model.specs.Cluster.{Cluster, Setup, members}

@@ -8,7 +8,7 @@ use Rattle.qq_group.specs.declared.seat.Seat.{Seat}
 use Rattle.qq_log.specs.Log.{LogState}
 use Rattle.qq_log.specs.declared.op.Op.{Op}
 use Rattle.qq_raft_model.specs.Group.{Seat as SeatState}
-use Rattle.qq_raft_queues.specs.declared.machine_queue.MachineQueue.{MachineQueue}
+use Rattle.qq_queue.specs.declared.machine_queue.MachineQueue.{MachineQueue}
 use Rattle.qq_queue.specs.Agreeing.{BeginsWith}
 use Rattle.qq_queue.specs.Members.{Member, own_log}
 use Rattle.qq_queue.specs.declared.cluster_queue.ClusterQueue.{ClusterQueue}

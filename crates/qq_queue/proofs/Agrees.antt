@@ -27,7 +27,7 @@ use Rattle.qq_group.specs.Group.{IsSeat, IsSeatBy, Represents, server_at, server
 use Rattle.qq_group.specs.Opening.{IsAllDown}
 use Rattle.qq_group.specs.Restarts.{HasStarted, IsFound, Restarts, noticed_at}
 use Rattle.qq_group.specs.declared.seat.Seat.{Seat}
-use Rattle.qq_raft_queues.specs.declared.machine_queue.MachineQueue.{MachineQueue}
+use Rattle.qq_queue.specs.declared.machine_queue.MachineQueue.{MachineQueue}
 use Rattle.qq_agree.specs.Support.{HaveAll, SupportAudit}
 use Rattle.qq_queue.specs.Agreeing.{BeginsWith, HasItsLogs, found_state, lane_by, lane_of, found_vote}
 use Rattle.qq_queue.specs.Members.{Member, Members, own_log, queue_stands}

@@ -30,8 +30,8 @@ use Rattle.qq_raft_core.specs.Raft.{server_of}
 use Rattle.qq_raft_model.specs.Group.{Event as Move, Group as GroupState, group_after}
 use Rattle.qq_raft_model.specs.Promises.{AreDistinct, IsOpened, IsUp}
 use Rattle.qq_raft_model.specs.State.{Server as Raft, last}
-use Rattle.qq_raft_queues.specs.StandsFor.{StandsFor}
-use Rattle.qq_raft_queues.specs.declared.machine_queue.MachineQueue.{MachineQueue}
+use Rattle.qq_queue.specs.StandsFor.{StandsFor}
+use Rattle.qq_queue.specs.declared.machine_queue.MachineQueue.{MachineQueue}
 use Rattle.qq_group.specs.Group.{IsReached, Represents, server_at}
 use Rattle.qq_group.specs.Reads.{leader_of, machine_at}
 use Rattle.qq_group_laws.specs.Audited.{IsAuditedBy}

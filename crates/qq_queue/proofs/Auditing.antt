@@ -12,7 +12,7 @@ use Rattle.qq_laws.proofs.Runs.{after-append}
 use Rattle.qq_model.specs.Audit.{audit_of, next_index, next_step, row_of, state_after, stays_within}
 use Rattle.qq_model.specs.State.{State, empty_queue, is_within_ends}
 use Rattle.qq_entry.specs.declared.queue.QueueArgs.{QueueArgs}
-use Rattle.qq_raft_queues.specs.declared.machine_queue.MachineQueue.{MachineQueue}
+use Rattle.qq_queue.specs.declared.machine_queue.MachineQueue.{MachineQueue}
 use Rattle.qq_cluster_model.specs.Queue.{audit_rows}
 use Rattle.qq_queue.specs.ClusterQueue.{OfItsQueue}
 use Rattle.qq_queue.specs.Members.{queue_applied, queue_stands}

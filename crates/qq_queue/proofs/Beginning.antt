@@ -16,7 +16,7 @@ use Rattle.qq_raft_model.specs.Group.{Group as GroupState, group_after, has_node
 use Rattle.qq_raft_model.specs.Promises.{AreDistinct}
 use Rattle.qq_raft_msg.specs.Rpc.{IsNode}
 use Rattle.qq_raft_protocol.specs.Facts.{In}
-use Rattle.qq_raft_queues.specs.declared.machine_queue.MachineQueue.{MachineQueue}
+use Rattle.qq_queue.specs.declared.machine_queue.MachineQueue.{MachineQueue}
 use Rattle.qq_group.specs.Group.{Represents, server_at}
 use Rattle.qq_group.specs.Opening.{AreApart, AreFound, IsAllDown, IsStart, IsUnnamed, OpensOver, Start, is_named, missing, restarts_of}
 use Rattle.qq_group_laws.specs.Audited.{IsAuditedBy}

@@ -17,7 +17,7 @@ use Rattle.qq_raft_model.specs.Group.{Group as GroupState, Seat as SeatState, ha
 use Rattle.qq_raft_model.specs.Group.Event.{Restart}
 use Rattle.qq_raft_model.specs.Server.{restart}
 use Rattle.qq_raft_model.specs.State.{Server as Raft}
-use Rattle.qq_raft_queues.specs.declared.machine_queue.MachineQueue.{MachineQueue}
+use Rattle.qq_queue.specs.declared.machine_queue.MachineQueue.{MachineQueue}
 use Rattle.qq_group.specs.Follows.{OthersStay}
 use Rattle.qq_group.specs.Group.{IsReached, Represents, server_at, server_by}
 use Rattle.qq_group.specs.Handing.{held, returned_at}

@@ -12,8 +12,8 @@ use Rattle.qq_parts.specs.Parts.{Parts, consumer_at}
 use Rattle.qq_parts.specs.Reads.{ready_items}
 use Rattle.qq_raft_core.specs.Raft.{server_of}
 use Rattle.qq_raft_model.specs.State.{Server as Raft}
-use Rattle.qq_raft_queues.specs.StandsFor.{StandsFor}
-use Rattle.qq_raft_queues.specs.declared.machine_queue.MachineQueue.{MachineQueue}
+use Rattle.qq_queue.specs.StandsFor.{StandsFor}
+use Rattle.qq_queue.specs.declared.machine_queue.MachineQueue.{MachineQueue}
 use Rattle.qq_group.specs.Group.{server_at}
 use Rattle.qq_group.specs.Reads.{leader_of, machine_of}
 use Rattle.qq_cluster_model.specs.Counts.{counts, counts_by, counts_of}

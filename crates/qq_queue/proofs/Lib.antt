@@ -1,3 +1,6 @@
+mod MachineSteps
+mod SerialSteps
+mod Serially
 pub mod Agrees
 mod Auditing
 pub mod Tallies

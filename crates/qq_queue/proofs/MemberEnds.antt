@@ -23,7 +23,7 @@ use Rattle.qq_raft_model.specs.State.{Server}
 use Rattle.qq_raft_core.specs.Raft.{IsAtEnd, server_of}
 use Rattle.qq_raft.specs.Stands.{IsCaused, state_of}
 use Rattle.qq_raft.specs.Step.{PassesEnd, ServerState, apply_next, unapplied, with_raft}
-use Rattle.qq_raft_queues.proofs.SerialSteps.{step_applied}
+use Rattle.qq_queue.proofs.SerialSteps.{step_applied}
 use Rattle.qq_group.specs.Events.{IsDeliveryCaused}
 use Rattle.qq_group.specs.Group.{server_at}
 use Rattle.qq_group.specs.declared.event.Event.{Event}

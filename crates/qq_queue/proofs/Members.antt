@@ -26,7 +26,7 @@ use Rattle.qq_raft_model.specs.State.{Server as Raft, last}
 use Rattle.qq_raft.specs.Step.{ServerState, add, apply_all, apply_committed, flush, notice, receive, submit, tick, with_raft}
 use Rattle.qq_raft.specs.Stands.{state_of}
 use Rattle.qq_raft.specs.declared.row.AppliedRow.{AppliedRow}
-use Rattle.qq_raft_queues.specs.declared.machine_queue.MachineQueue.{MachineQueue}
+use Rattle.qq_queue.specs.declared.machine_queue.MachineQueue.{MachineQueue}
 use Rattle.qq_group.specs.Events.{HasShownMessage, HasShownNotice, OneOf, ReachesOne, delivery, lacks_by, lacks_op, notices, takes, takes_at}
 use Rattle.qq_group.specs.Follows.{Follows, HasShownBy, OthersStay, Shows, ShowsNothing}
 use Rattle.qq_group.specs.Group.{IsReached, IsSeat, IsSeatBy, Represents, server_at, server_by}

@@ -9,7 +9,7 @@ use Rattle.qq_raft_core.specs.Raft.{server_of, state_of}
 use Rattle.qq_raft_model.specs.Group.{Event as Move, Group as GroupState, group_after}
 use Rattle.qq_raft_model.specs.Promises.{AreDistinct, IsOpened, IsUp}
 use Rattle.qq_raft_model.specs.State.{Server as Raft}
-use Rattle.qq_raft_queues.specs.declared.machine_queue.MachineQueue.{MachineQueue}
+use Rattle.qq_queue.specs.declared.machine_queue.MachineQueue.{MachineQueue}
 use Rattle.qq_group.specs.Group.{server_at, server_by}
 use Rattle.qq_group.specs.Handing.{held}
 use Rattle.qq_group.specs.Reads.{handed_at, member_at, noticed_by, op_at}

@@ -17,7 +17,7 @@ use Rattle.qq_raft_core.specs.Raft.{server_of}
 use Rattle.qq_raft_model.specs.Server.{is_ready}
 use Rattle.qq_raft_model.specs.State.{Server as Raft}
 use Rattle.qq_raft_msg.specs.Queue.{Applied}
-use Rattle.qq_raft_queues.proofs.SerialSteps.{step_applied}
+use Rattle.qq_queue.proofs.SerialSteps.{step_applied}
 use Rattle.qq_raft.specs.Stands.{state_of}
 use Rattle.qq_raft.specs.Step.{ServerState, apply_all, apply_committed, apply_next, shown_row, shows, with_raft}
 use Rattle.qq_raft.specs.Step.{row_of as applied_row}

@@ -17,7 +17,7 @@ use Rattle.qq_raft_core.specs.Raft.{server_of}
 use Rattle.qq_raft_model.specs.Group.{Event as Move, Group as GroupState, Seat as SeatState, group_after, happens, take_by, take_op}
 use Rattle.qq_raft_model.specs.Group.Event.{Take}
 use Rattle.qq_raft_model.specs.State.{Server as Raft}
-use Rattle.qq_raft_queues.specs.declared.machine_queue.MachineQueue.{MachineQueue}
+use Rattle.qq_queue.specs.declared.machine_queue.MachineQueue.{MachineQueue}
 use Rattle.qq_group.specs.Follows.{Follows, KeepsQueue, OthersStay}
 use Rattle.qq_group.specs.Group.{IsReached, Represents, server_at, server_by}
 use Rattle.qq_group.specs.Handing.{KeepsReturned, hands, has_returned, next_at, next_by, returned_at}

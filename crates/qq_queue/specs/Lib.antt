@@ -1,3 +1,5 @@
+pub mod Applied
+pub mod StandsFor
 pub mod Range
 pub mod Sessions
 pub mod Tally

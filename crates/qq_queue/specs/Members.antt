@@ -18,9 +18,9 @@ use Rattle.qq_raft_model.specs.Group.{Event as Move, Group as GroupState, group_
 use Rattle.qq_raft_model.specs.Group.Event.{Tick, Submit, Add, Flush, Deliver, Lose, Copy, Notice, Crash}
 use Rattle.qq_raft_msg.specs.Bag.{at_place}
 use Rattle.qq_raft_msg.specs.Queue.{Applied}
-use Rattle.qq_raft_queues.specs.Applied.{applied_of}
-use Rattle.qq_raft_queues.specs.StandsFor.{StandsFor}
-use Rattle.qq_raft_queues.specs.declared.machine_queue.MachineQueue.{MachineQueue}
+use Rattle.qq_queue.specs.Applied.{applied_of}
+use Rattle.qq_queue.specs.StandsFor.{StandsFor}
+use Rattle.qq_queue.specs.declared.machine_queue.MachineQueue.{MachineQueue}
 use Rattle.qq_group.specs.Group.{IsReached, IsSound, Represents, server_at}
 use Rattle.qq_group.specs.Handing.{returned_at}
 use Rattle.qq_group.specs.Opening.{IsAllDown, Start}

@@ -11,10 +11,10 @@ ghost use Rattle.qq_queue.specs.ClusterQueue.{OfItsQueue};
 ghost use Rattle.qq_queue.specs.Members.{queue_applied, queue_stands};
 
 use crate::cluster_queue::ClusterQueue;
+use crate::machine_queue::MachineQueue;
 use qq_base::{Duplicate, Index, Memory};
 use qq_entry::{AuditRow, Entry, is_in_range};
 use qq_raft_msg::Queue;
-use qq_raft_queues::MachineQueue;
 use qq_script::{audit_head_text, row_text};
 use std::alloc::Global;
 

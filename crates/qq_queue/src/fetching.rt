@@ -9,6 +9,7 @@ ghost use Rattle.qq_queue.specs.Members.{AreSound};
 ghost use Rattle.qq_queue.specs.Sessions.{standings};
 
 use crate::cluster_queue::ClusterQueue;
+use crate::machine_queue::MachineQueue;
 use crate::sessions::Sessions;
 use qq_base::{ConsumerId, Memory, SessionId};
 use qq_consuming::{Consumers, Gap};
@@ -18,7 +19,6 @@ use qq_log::Log;
 use qq_machine::Machine;
 use qq_parts::{deliveries_end, parts_tell_the_queue};
 use qq_raft_model::what_a_group_committed_stays;
-use qq_raft_queues::MachineQueue;
 use qq_session::Shown;
 use std::alloc::Global;
 use std::collections::VecDeque;

@@ -7,12 +7,12 @@ ghost use Rattle.qq_queue.specs.Handing.{TakesOp};
 ghost use Rattle.qq_queue.specs.Members.{AreSound};
 
 use crate::cluster_queue::ClusterQueue;
+use crate::machine_queue::MachineQueue;
 use qq_base::{Memory, NodeId};
 use qq_group::events_reach_groups;
 use qq_group_laws::members_apply_the_audit;
 use qq_log::{Log, Op};
 use qq_raft_model::a_log_was_handed_the_changes_of_its_server;
-use qq_raft_queues::MachineQueue;
 use std::alloc::Global;
 
 impl ClusterQueue {

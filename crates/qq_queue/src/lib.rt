@@ -16,6 +16,7 @@ mod handing_out;
 mod judging;
 mod laws;
 mod leaving;
+mod machine_queue;
 mod moves;
 mod opening;
 mod publisher;
@@ -34,6 +35,9 @@ mod votes;
 pub use claim::Claim;
 pub use cluster_queue::ClusterQueue;
 pub use event::QueueEvent;
-pub use laws::{a_refusal_tells_an_end, sessions_are_those_of_each_queue};
+pub use laws::{
+    a_refusal_tells_an_end, a_row_is_of_the_serial_audit, sessions_are_those_of_each_queue,
+};
+pub use machine_queue::MachineQueue;
 pub use sessions::{Sessions, Standing};
 pub use tally::Tally;

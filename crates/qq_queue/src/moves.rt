@@ -13,6 +13,7 @@ ghost use Rattle.qq_raft_msg.specs.Rpc.{IsNode};
 ghost use Rattle.qq_queue.specs.Range.{HasBytes};
 ghost use Rattle.qq_queue.specs.Members.{moves_of, own_log, AreSound, IsGroupOf, IsStepCaused, Makes, Tells};
 
+use crate::machine_queue::MachineQueue;
 use qq_base::{Duplicate, Memory, NodeId};
 use qq_entry::{Command, QueueArgs};
 use qq_group::{
@@ -22,7 +23,6 @@ use qq_group_laws::{a_message_always_fits, each_row_is_of_the_audit, members_app
 use qq_log::Log;
 use qq_raft::{AppliedRow, what_is_applied_is_committed};
 use qq_raft_model::what_a_group_committed_stays;
-use qq_raft_queues::MachineQueue;
 use std::alloc::Global;
 
 /// The servers of the queue's members, each with the machine of parts.

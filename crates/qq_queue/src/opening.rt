@@ -13,6 +13,7 @@ ghost use Rattle.qq_queue.specs.Members.{down_start, own_log, AreSound, OpensGro
 
 use crate::cluster_queue::ClusterQueue;
 use crate::counts::Counts;
+use crate::machine_queue::MachineQueue;
 use crate::moves::Members;
 use crate::publishers::Publishers;
 use crate::untold::Untold;
@@ -22,7 +23,6 @@ use qq_consuming::Consumers;
 use qq_entry::QueueArgs;
 use qq_group::{Group, GroupFault};
 use qq_log::Log;
-use qq_raft_queues::MachineQueue;
 use qq_taker::Seats;
 use std::alloc::Global;
 

@@ -11,13 +11,13 @@ ghost use Rattle.qq_queue.specs.ClusterQueue.{is_up_at, OfItsQueue};
 ghost use Rattle.qq_queue.specs.Members.{number_of, AreSound};
 
 use crate::cluster_queue::ClusterQueue;
+use crate::machine_queue::MachineQueue;
 use qq_base::{NodeId, QueueId};
 use qq_group::{an_idle_group_has_nothing_open, what_is_committed_stays_in_the_audit};
 use qq_log::Log;
 use qq_parts::parts_tell_the_queue;
 use qq_raft_model::{a_log_was_handed_the_changes_of_its_server, what_a_group_committed_stays};
 use qq_raft_msg::MemberState;
-use qq_raft_queues::MachineQueue;
 
 impl ClusterQueue {
     /// Its number, which is its place among the queues of a cluster.

@@ -12,10 +12,10 @@ ghost use Rattle.qq_queue.specs.Tally.{count_rows, no_rows};
 
 use crate::audit::next_row;
 use crate::cluster_queue::ClusterQueue;
+use crate::machine_queue::MachineQueue;
 use qq_base::{Duplicate, Memory};
 use qq_entry::{Answer, AuditRow, Entry};
 use qq_raft_msg::Queue;
-use qq_raft_queues::MachineQueue;
 use std::alloc::Global;
 
 /// How many rows audits have, and how many of them say `confirmed` and not `again`.

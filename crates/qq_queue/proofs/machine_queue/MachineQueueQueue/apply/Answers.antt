@@ -8,10 +8,10 @@ use Rattle.qq_model.specs.Step.{step}
 use Rattle.qq_parts.specs.Parts.{Stands}
 use Rattle.qq_parts.specs.Step.{PartsStep}
 use Rattle.qq_raft_msg.specs.Queue.{IsApplied}
-use Rattle.qq_raft_queues.specs.Applied.{applied_of}
-use Rattle.qq_raft_queues.specs.StandsFor.{StandsFor}
-use Rattle.qq_raft_queues.proofs.MachineSteps.{index-is, next-applies, sound-reached, spent-weaker, step-applied}
-use Rattle.qq_raft_queues.proofs.machine_queue.MachineQueueQueue.apply.Goals as goal
+use Rattle.qq_queue.specs.Applied.{applied_of}
+use Rattle.qq_queue.specs.StandsFor.{StandsFor}
+use Rattle.qq_queue.proofs.MachineSteps.{index-is, next-applies, sound-reached, spent-weaker, step-applied}
+use Rattle.qq_queue.proofs.machine_queue.MachineQueueQueue.apply.Goals as goal
 
 pub returns-in-Err-clause-cause : goal.returns-in-Err-clause-cause
 returns-in-Err-clause-cause c = λ s was.

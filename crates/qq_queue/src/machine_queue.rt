@@ -3,8 +3,22 @@ use qq_base::{Index, Memory};
 use qq_entry::{Answer, Effects, Entry, QueueArgs};
 use qq_machine::Machine;
 use qq_raft_msg::Queue;
-use qq_serial::Serial;
 use std::alloc::Global;
+use std::marker::Model;
+
+/// A queue by its definition: the type whose values are the definition's states. None is ever made.
+#[derive(Drop)]
+pub struct PlainQueue {
+    args: QueueArgs,
+}
+
+impl Model for PlainQueue {
+    ghost use Rattle.qq_model.specs.State.{State, empty_queue};
+
+    ghost Value = { State };
+
+    ghost view = { λ q. empty_queue q.args };
+}
 
 /// The machine of parts, which a Raft server applies entries to.
 #[derive(Drop)]
@@ -15,7 +29,7 @@ pub struct MachineQueue {
 impl MachineQueue {
     ghost use Rattle.std.specs.Prelude.{◌≡◌};
     ghost use Rattle.qq_model.specs.State.{empty_queue};
-    ghost use Rattle.qq_raft_queues.specs.StandsFor.{StandsFor};
+    ghost use Rattle.qq_queue.specs.StandsFor.{StandsFor};
 
     /// The queue to which no entry was applied. It takes no memory.
     pub fn new(alloc: Global, args: QueueArgs) -> Self
@@ -46,10 +60,10 @@ impl Queue for MachineQueue {
     ghost use Rattle.qq_ledger.specs.Low.{low as queue_low};
     ghost use Rattle.qq_model.specs.State.{is_within_ends};
     ghost use Rattle.qq_model.specs.Step.{step as queue_step};
-    ghost use Rattle.qq_raft_queues.specs.Applied.{applied_of};
-    ghost use Rattle.qq_raft_queues.specs.StandsFor.{StandsFor};
+    ghost use Rattle.qq_queue.specs.Applied.{applied_of};
+    ghost use Rattle.qq_queue.specs.StandsFor.{StandsFor};
 
-    type Plain = Serial;
+    type Plain = PlainQueue;
 
     ghost step = { λ s index entry. applied_of (queue_step s index entry) };
 

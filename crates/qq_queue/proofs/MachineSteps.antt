@@ -27,8 +27,8 @@ use Rattle.qq_parts.specs.Parts.{Parts}
 use Rattle.qq_parts.specs.Step.{StepsFor, new_parts, parts_step, parts_step_by, parts_go_through}
 use Rattle.qq_parts.proofs.Stepping.{new-holds}
 use Rattle.qq_raft_msg.specs.Queue.{IsApplied}
-use Rattle.qq_raft_queues.specs.Applied.{applied_of}
-use Rattle.qq_raft_queues.specs.StandsFor.{StandsFor}
+use Rattle.qq_queue.specs.Applied.{applied_of}
+use Rattle.qq_queue.specs.StandsFor.{StandsFor}
 
 gate-applied : (g : Gate) (index : Index) (by : Stamp) (command : Command) (m : Parts)
     → (parts_go_through g index by command m).parts.rest.applied ≡ index.0
