@@ -1,4 +1,4 @@
-"""An independent model of `qq script`, with which worked cases and drills are compared: nodes with their logs and
+"""An independent model of `qq script`, with which worked cases, examples and workloads are compared: nodes with their logs and
 queues, the clients' sessions, and what each line of a script prints.
 
 It is written from the rules in words that stand in docs/ (SCRIPT.md, WORLD.md, MACHINE.md, RAFT.md, STORAGE.md), and

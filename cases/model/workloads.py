@@ -115,7 +115,7 @@ class Long(Plain):
 
 
 class Drill(Plain):
-    """The lines of `qq drill NUMBER`: so many steps of that workload, and then all is brought home."""
+    """The lines of `qq drill NUMBER`: STEPS_OF_DRILL steps of that workload, and then all is brought home."""
 
     def make(self):
         for _ in range(STEPS_OF_DRILL):
