@@ -1,10 +1,10 @@
-"""An independent model of `qq script`, with which worked cases, examples and workloads are compared: nodes with their logs and
-queues, the clients' sessions, and what each line of a script prints.
+"""An independent model of `qq script`, with which worked cases, examples and workloads are compared: nodes with their
+logs and queues, the clients' sessions, and what each line of a script prints.
 
-It is written from the rules in words that stand in docs/ (SCRIPT.md, WORLD.md, MACHINE.md, RAFT.md, STORAGE.md), and
-shares nothing with the program. Its queues have no arguments, or all have a single active consumer. Of the logs' bytes
-it keeps the lengths, since a crash may cut them; junk that a crash leaves counts as no record, and that a full file is
-replaced shows nowhere."""
+It is written from the rules in words that stand in docs/ (SCRIPT.md, WORLD.md, MACHINE.md, CLIENTS.md, RAFT.md,
+STORAGE.md), and shares nothing with the program. Its queues have no arguments, or all have a single active consumer. Of
+the logs' bytes it keeps the lengths, since a crash may cut them; junk that a crash leaves counts as no record, and that
+a full file is replaced shows nowhere."""
 import texts
 from group import Group, Log, entry_of, first_entry
 from lines import CLIENT_LINES, Fault, LONGEST_BODY, Reader, Refused, lines_of
