@@ -14,7 +14,7 @@ ghost use Rattle.qq_cluster_laws.specs.Waiting.{AllWait, AreApart, HasOwnGroups,
 
 use qq_raft_model::the_disks_support_the_audit;
 
-/// A law: what a node's log was given of a queue, and what waits behind it.
+/// A law: the ops of a queue that a node's log was given, and those that wait to follow them.
 ///
 /// - `own`: all of it are changes of that queue.
 /// - `gives`: a write gives the log what waits of each queue.

@@ -20,7 +20,8 @@ use qq_raft_model::{the_disks_support_the_audit, what_a_group_committed_stays};
 /// A law: of a call by which these events happened, so that this cluster stands.
 ///
 /// - `text`: the cluster is as they leave it, what they print was added to the text, and takers saw what they show.
-/// - `disks`: each disk tells what it told. Where it tells, and its log was linked, the events are traced on it.
+/// - `disks`: a disk shows its contents exactly where it did before. Where it does, and its log was linked, the events
+///   are traced on it.
 pub fn what_happened_is_on_the_disks()
     ensures text { (setup : Setup) (c last : Cluster) (done : List ClusterEvent) (a b : ℕ → Seen)
         (before later : Outcome) →

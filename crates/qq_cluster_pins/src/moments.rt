@@ -64,8 +64,8 @@ pub fn each_moment_keeps_what_was_synced()
     whatever_is_left_lies_between();
 }
 
-/// A law: a restart finds of each queue of the node what its disk read at some moment of the restart: so many of the
-/// queue's ops come to the state that was read.
+/// A law: a restart finds of each queue of the node what its disk read at some moment of the restart: as many of
+/// the queue's ops give the state that was read.
 pub fn a_restart_finds_what_the_disk_reads()
     ensures { (setup : Setup) (c : Cluster) (k : ℕ) (ops : ℕ → ℕ) (old new : List Disk) →
         let queues = map (λ (p : ℕ). (setup.args p).queue)

@@ -18,11 +18,11 @@ ghost use Rattle.qq_cluster_model.specs.Queue.{Event, after, begin, own_rows};
 ghost use Rattle.qq_cluster_laws.specs.Linked.{IsReached};
 ghost use Rattle.qq_cluster_laws.specs.Waiting.{AllWait, AreApart, HasOwnGroups};
 
+use qq_cluster_laws::what_waits_goes_on;
 use qq_cluster_model::{
     a_leader_answers_its_own_term, an_audit_is_serial, each_queue_is_its_own,
     ops_are_noticed_once_synced,
 };
-use qq_cluster_laws::what_waits_goes_on;
 
 /// A law: of a queue to which some events happened.
 ///

@@ -1,4 +1,4 @@
-//! What a cluster comes to where nothing fails. It has no code.
+//! How a cluster goes on where nothing fails. It has no code.
 #![tactic(auto)]
 
 mod laws;

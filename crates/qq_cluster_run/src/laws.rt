@@ -17,9 +17,9 @@ ghost use Rattle.qq_cluster_run.specs.Troubles.{TakerIsGone};
 
 use qq_cluster_model::{a_cluster_prints_what_is_true, lines_settle};
 
-/// A law: what an exit status tells of a run, where source and sink tell their bytes.
+/// A law: what an exit status says of a run, where source and sink show their bytes.
 ///
-/// - `told`: 0, all lines were served, and behind their text stand the audits. 4, some lines were served,
+/// - `told`: 0, all lines were served, and after their text stand the audits. 4, some lines were served,
 ///   and the next one is refused by its number and its fault, or since no taker is there that it is to give.
 ///   5, the source has failed, and all lines that end within what was read were served. 6, the sink has
 ///   failed, and what it has is a first part of what is printed. 7, the yard has failed at the opening or at

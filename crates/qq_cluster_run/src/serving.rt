@@ -1,4 +1,4 @@
-//! What lines come to at a cluster, as laws: the functions do nothing, and their contracts are the laws.
+//! How a cluster serves lines, as laws: the functions do nothing, and their contracts are the laws.
 ghost use Rattle.std.specs.Prelude.{◌≡◌, ◌++◌, [], List, true, false, codes};
 ghost use Rattle.std.specs.Fmt.{decimal};
 ghost use Rattle.qq_base.specs.declared.ids.NodeId.{NodeId};
