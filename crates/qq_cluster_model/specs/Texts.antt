@@ -1,5 +1,5 @@
 -- The text of what a cluster prints.
-use Rattle.std.specs.Prelude.{ℕ, List, [], ◌++◌, Bool, Option, Some, None, length, codes, nat_eq}
+use Rattle.std.specs.Prelude.{ℕ, List, ◌++◌, Bool, Option, Some, None, length, codes, nat_eq}
 use Rattle.std.specs.Fmt.{decimal}
 use Rattle.std.specs.List.{flat_map}
 use Rattle.qq_raft_model.specs.State.{Server}
