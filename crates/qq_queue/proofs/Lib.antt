@@ -12,6 +12,7 @@ mod Told
 mod Waits
 mod Happening
 mod Verdicts
+mod Meeting
 pub mod Logs
 mod Offering
 mod Known

@@ -1,5 +1,5 @@
 -- What a queue shows, one list after the other.
-use Rattle.std.proofs.Common.{◌≡◌, List, [], ◌∷◌, ◌++◌, ap, sym, append_assoc, append-nil, ◌∙◌}
+use Rattle.std.proofs.Common.{◌≡◌, List, [], ◌++◌, ap, sym, append_assoc, append-nil, ◌∙◌}
 use Rattle.qq_base.specs.Fronts.{IsFront}
 use Rattle.qq_session.specs.declared.shown.Shown.{Shown}
 

@@ -1,5 +1,5 @@
 -- What comes to the clients of a member's rows, by the parts of the call.
-use Rattle.std.proofs.Common.{◌≡◌, List, ◌++◌, refl, sym, ap, subst, ◌∙◌}
+use Rattle.std.proofs.Common.{◌≡◌, List, ◌++◌, refl, ap, ◌∙◌}
 use Rattle.qq_consuming.specs.Consuming.{Received}
 use Rattle.qq_entry.specs.declared.audit.Effect.{Effect}
 use Rattle.qq_raft.specs.declared.row.AppliedRow.{AppliedRow}

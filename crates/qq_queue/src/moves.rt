@@ -79,10 +79,8 @@ pub fn submit(
     what_is_applied_is_committed::<MachineQueue>();
     a_message_always_fits::<MachineQueue, Log>();
     events_reach_groups();
-    match group.submit(alloc, node, time, command) {
-        Ok(_) => Ok(()),
-        Err(cause) => Err(cause),
-    }
+    drop(group.submit(alloc, node, time, command)?);
+    Ok(())
 }
 
 /// A member that is down restarts with the log that its disk holds, and a machine that has applied nothing.

@@ -18,11 +18,11 @@ seats-preserved c =
       said = ap (λ (l : List Seat). c.push.new.self.items ++ dropped_by (Some c.args.whom) l)
           c.leave_first.ensures.after
           ∙ dropped-then c.args.whom c.seats.seats seat c.seats.shown.items c.push.new.self.items
-          c.in-Some.ensures.seat c.in_ok-push.ensures
+          c.in-Some.ensures.seat c.in_ok-push.ensures.items
           ∙ c.seats.invariant.said;
       front = front-trans c.seats.invariant.front
           (shown-front (Dropped seat.consumer.session.number seat.number ∷ []) c.seats.shown.items
-          c.push.new.self.items c.in_ok-push.ensures);
+          c.push.new.self.items c.in_ok-push.ensures.items);
     }
 
 pub seats-smaller : goal.seats-smaller

@@ -21,7 +21,7 @@ returns-then-not-room-clause-ok c =
 
 pub returns-clause-ok : goal.returns-clause-ok
 returns-clause-ok c =
-    c.in_default.ensures.ok
+    c.in_ok-know_by.ensures.ok
     ∙ ap (λ (s : SessionId). know_by s c.args.body.now c.args.consumers.now) c.client.ensures
     ∙ sym (cond-true (may_hand (numbers_of c.args.publishers.now c.args.session))
     (know_by (client c.args.session) c.args.body.now c.args.consumers.now) c.args.consumers.now

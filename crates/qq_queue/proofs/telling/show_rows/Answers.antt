@@ -1,8 +1,5 @@
-use Rattle.std.proofs.Common.{◌≡◌, ◌∷◌, ◌++◌, [], List, refl, sym, ap, append_assoc, append-nil, ◌∙◌}
-use Rattle.qq_base.proofs.Exits.{at_exit}
+use Rattle.std.proofs.Common.{◌≡◌, ◌∷◌, ◌++◌, [], List, sym, ap, append_assoc, ◌∙◌}
 use Rattle.qq_base.proofs.Fronts.{front-trans}
-use Rattle.qq_base.specs.Fronts.{IsFront}
-use Rattle.qq_base.specs.declared.memory.Memory.{Memory}
 use Rattle.qq_cluster_model.specs.Taking.{answers, seated}
 use Rattle.qq_entry.specs.declared.audit.AuditRow.{AuditRow}
 use Rattle.qq_raft.specs.declared.row.AppliedRow.{AppliedRow}
@@ -12,7 +9,6 @@ use Rattle.qq_taker.specs.declared.seats.Seat.{Seat}
 use Rattle.qq_queue.specs.Members.{audit_rows_of}
 use Rattle.qq_queue.specs.Sessions.{clients_of, numbers_of, standings}
 use Rattle.qq_queue.proofs.Hearing.{answers-append, printed-then, seated-append}
-use Rattle.qq_queue.proofs.Offering.{nil-of}
 use Rattle.qq_queue.proofs.Showing.{shown-front}
 use Rattle.qq_queue.proofs.telling.show_rows.Goals as goal
 

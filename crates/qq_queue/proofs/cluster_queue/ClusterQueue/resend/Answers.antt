@@ -1,6 +1,7 @@
-use Rattle.std.proofs.Common.{◌≡◌, ◌∷◌, [], List, sym, ap, subst, ◌∙◌, inr}
+use Rattle.std.proofs.Common.{◌≡◌, ◌∷◌, ◌++◌, [], append-nil, List, sym, ap, subst, ◌∙◌, inr}
 use Rattle.std.specs.Prelude.{is_some}
 use Rattle.std.specs.List.{AllByRecursion}
+use Rattle.qq_base.proofs.Exits.{at_exit}
 use Rattle.qq_base.proofs.Fronts.{front-trans}
 use Rattle.qq_entry.specs.declared.command.Command.{Command}
 use Rattle.qq_session.specs.declared.shown.Shown.{Shown}
@@ -63,15 +64,16 @@ returns-clause-ok c = λ sessions q st.
     ∙ ap (λ (l : List Command). c.commands.shown.items ++ said_of ready c.args.session l) (sym none)
     ∙ c.commands.invariant.said)
 
-pub returns-in-Err-offer-clause-cause : goal.returns-in-Err-offer-clause-cause
-returns-in-Err-offer-clause-cause c =
+pub returns-in_err-offer-clause-cause : goal.returns-in_err-offer-clause-cause
+returns-in_err-offer-clause-cause c =
     let first : ClusterQueue = c.args.self.now in
     let given : List Command = c.from_vec-rest.result.items in
     let here : c.in-Some.command ∷ c.pop_front.new.self.items ≡ c.commands.rest.items =
     sym c.in-Some.ensures.items in
-    inr (subst (λ (l : List Command). HasRefused l first c.in-Err-offer.cause)
+    at_exit _ _ c.from_residual-in_err-offer.ensures.1
+    (inr (subst (λ (l : List Command). HasRefused l first c.in_err-offer.field-0.0)
     (c.from_vec-rest.ensures.items ∙ c.in_ok-commands.ensures.ok)
     (resending-refused c.leader-leader.result given c.pop_front.new.self.items c.in-Some.command first c.commands.self
-    c.in-Err-offer.cause
+    c.in_err-offer.field-0.0
     (subst (λ (l : List Command). Resending c.leader-leader.result given l first c.commands.self) (sym here)
-    c.commands.invariant.so) c.leader-leader.ensures c.commands.invariant.sound c.in-Err-offer.ensures.cause))
+    c.commands.invariant.so) c.leader-leader.ensures c.commands.invariant.sound c.in_err-offer.ensures.cause)))

@@ -13,7 +13,7 @@ returns-in-Err-WindowFull-clause-ok c = λ sessions q st.
     c.args.body c.args.shown.now.items c.push.new.self.items st
     (subst (λ (fault : HandFault). HasHandCause fault (numbers_of c.args.self.now.publishers c.args.session))
     c.in-Err-WindowFull.field-0-is c.in-Err-WindowFull.ensures.cause) refl refl refl c.in-Err-WindowFull.ensures.err
-    c.in_ok-learn.ensures.ok refl refl c.in_ok-push.ensures
+    c.in_ok-learn.ensures.ok refl refl c.in_ok-push-in-Err-WindowFull.ensures.items
 
 pub returns-clause-ok : goal.returns-clause-ok
 returns-clause-ok c = λ sessions q st.

@@ -1,5 +1,4 @@
 use Rattle.std.proofs.Common.{List}
-use Rattle.qq_base.proofs.Fronts.{front-trans}
 use Rattle.qq_taker.specs.declared.handed.Handed.{Handed}
 use Rattle.qq_queue.specs.Sessions.{standings}
 use Rattle.qq_queue.proofs.Told.{has-told}
