@@ -6,7 +6,8 @@ UNLIMITED = -1
 
 
 class LimitedQueue(Queue):
-    """What a queue with arguments is, beside one without. `died` counts the messages that died, by their reason."""
+    """What a queue with arguments is, beside one without. `died` has the rows of the messages that died, each with its
+    reason; `dead` has those that stay."""
 
     def __init__(self, arguments):
         super().__init__(QuickRows(), arguments.get("x-single-active-consumer", False))
@@ -15,8 +16,7 @@ class LimitedQueue(Queue):
         self.rejects = arguments.get("x-overflow") == "reject-publish"
         self.keeps_dead = (self.rejects and arguments.get("x-dead-letter-strategy") == "at-least-once"
                            and "x-dead-letter-exchange" in arguments)
-        self.died = {"rejected": 0, "delivery_limit": 0, "maxlen": 0}
-        self.dead = []
+        self.died, self.dead = [], []
 
     def step(self, command):
         told = super().step(command)
@@ -48,7 +48,7 @@ class LimitedQueue(Queue):
         return self.finish(command, consumer, lambda row: self.die(row, "rejected"))
 
     def die(self, row, reason):
-        self.died[reason] += 1
+        self.died.append((row, reason))
         self.rows.forget(row)
         if self.keeps_dead:
             self.dead.append(row)

@@ -184,8 +184,7 @@ def of_entries(audit, printed, entries, arguments):
         messages += [Message(row.arrival, row.count, len(row.body), row.body, f"with {it.session}/{it.tag} as {row.id}")
                      for row in out]
     kept = [Message(row.arrival, row.count, len(row.body), row.body, "dead") for row in queue.dead]
-    died = sum(queue.died.values())
-    dead = f"{died} ({len(kept)} kept)" if kept else str(died)
+    dead = f"{len(queue.died)} ({len(kept)} kept)" if kept else str(len(queue.died))
     returned = max((it.count for it in messages), default=0)
     return Queue(audit.queue, *leader_of(audit, printed), queue.ready_count(), unsettled, dead, queue.arrivals, returned,
                  messages + kept, notes)
