@@ -4,6 +4,7 @@ import sys
 import exports
 import scripts
 import setups
+import table
 import words
 from lines import lines_of
 
@@ -42,7 +43,7 @@ def look_at_export(name, text, asked):
     export = exports.read(text, "--ignore-policies" in asked.values)
     for fault in export.faults:
         print(f"{name}: {fault}")
-    print(f"{name}: {export.counts}" + (f"; {len(export.faults)} faults" if export.faults else ""))
+    print(f"{name}: {export.counts}" + (f"; {table.count(len(export.faults), 'fault')}" if export.faults else ""))
     return 3 if export.faults else 0
 
 
@@ -59,6 +60,5 @@ def look_at_script(name, text, asked):
             faults += 1
             if faults <= MOST:
                 print(f"{name}: {scripts.told(count, line, found[1])}")
-    told = "no fault" if not faults else "1 fault" if faults == 1 else f"{faults:,} faults"
-    print(f"{name}: {count:,} lines, {told}")
+    print(f"{name}: {table.count(count, 'line')}, {table.count(faults, 'fault') if faults else 'no fault'}")
     return first

@@ -4,6 +4,7 @@ import fcntl
 import os
 import resource
 import signal
+from itertools import combinations
 
 import exports
 import logs
@@ -179,12 +180,25 @@ def unlisted(root, node, log, setup):
             f"{node} is no member by these words" + (f"; it was made with: {setups.words_of(made)}" if made else "")]
 
 
+def conflicts(root, kept):
+    """Names the entries that two nodes have of one term and that differ: no group of nodes leaves those."""
+    found = []
+    for one, other in combinations(kept, 2):
+        for queue in kept[one].keys() & kept[other].keys():
+            pairs = zip(kept[one][queue].entries, kept[other][queue].entries)
+            index = next((at for at, (a, b) in enumerate(pairs, 1) if a.term == b.term and a != b), None)
+            if index:
+                folders = " and ".join(logs.folder_of(root, node) for node in (one, other))
+                found.append(f"{folders} have different entries {index} of queue {queue} in one term: they are of two runs")
+    return found[:MOST_ROWS]
+
+
 def of_loss(_given, asked, _input):
     root = asked.values.get("--root")
     if root is None:
         return ["a restart found fewer ops of a queue than its member had been told of: the bytes of a `crash N junk HEX` "
                 "of the script may do that"]
-    setup, rows = setups.of_words(asked), []
+    setup, rows, kept = setups.of_words(asked), [], {}
     for node in range(1, setup.nodes + 1):
         folder = logs.folder_of(root, node)
         log = logs.Log(folder)
@@ -192,10 +206,14 @@ def of_loss(_given, asked, _input):
             rows.append(f"{folder}: no log files, so it counts as a node that never had anything")
             continue
         log.read()
+        if not log.lanes:
+            rows.append(f"{folder}: its log has nothing of any queue, as one that begins anew")
         for queue in sorted(log.lanes)[:MOST_ROWS]:
             term, last = log.lanes[queue].last()
             name = setups.names(setup)[queue - 1] if queue <= len(setup.queues) else f"queue {queue}"
             rows.append(f"{folder}: {name} term {log.lanes[queue].term}, {last} entries, the last of term {term}")
+        kept[node] = log.lanes
+    rows += conflicts(root, kept)
     others = [logs.folder_of(root, node) for node in logs.nodes_in(root) if node > setup.nodes]
     rows += [f"{folder}: a node that --nodes {setup.nodes} leaves out" for folder in others]
     made = setups.read(root)
@@ -219,12 +237,23 @@ REASONS = {2: of_words, 3: of_export, 4: of_line, 5: of_input, 6: of_output, 7: 
            11: of_limit, 12: of_memory, 20: of_spent}
 
 
+# What ends the program from outside, or in a build that isn't proved.
+SIGNALS = {
+    "SIGKILL": ["  somebody has ended it, or the system has, for want of memory (dmesg says so). What it had printed as "
+                "confirmed is there at the next run over the same folder"],
+    "SIGXFSZ": ["  a file may have no more bytes here (ulimit -f)"],
+    **dict.fromkeys(("SIGILL", "SIGTRAP", "SIGABRT", "SIGSEGV"), [
+        "  so ends a program that isn't proved, where a check of it fails: please report the words and the script"]),
+}
+
+
 def of_status(status, given, source):
     """Returns what is to be said after a run with these words, this status and this input."""
     if status == 0:
         return []
     if status < 0:
-        return [f"the program was ended by the signal {signal.Signals(-status).name}"]
+        name = signal.Signals(-status).name
+        return [f"the program was ended by the signal {name}", *SIGNALS.get(name, [])]
     row = table.statuses().get(status)
     asked = asked_of(given)
     if row is None or status not in REASONS or asked is None and status != 2:

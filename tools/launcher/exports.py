@@ -141,8 +141,10 @@ class Reader:
         self.bindings += 1
 
     def export(self):
-        counts = (f"{len(self.queues)} quorum queues, {len(self.exchanges) - len(BUILT_IN)} exchanges, {self.bindings} "
-                  f"bindings; skipped: {len(self.skipped)} queues of other types, {self.others} items of other virtual hosts")
+        counts = (f"{table.count(len(self.queues), 'quorum queue')}, "
+                  f"{table.count(len(self.exchanges) - len(BUILT_IN), 'exchange')}, {table.count(self.bindings, 'binding')}; "
+                  f"skipped: {table.count(len(self.skipped), 'queue')} of other types, "
+                  f"{table.count(self.others, 'item')} of other virtual hosts")
         return Export(self.queues, self.faults, counts)
 
 

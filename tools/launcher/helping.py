@@ -49,7 +49,7 @@ def of_line(words_of):
     letters = table.letters()
     used = dict.fromkeys(word for it in rows for word in it.form.split()[1:] if word in letters)
     # Of `send` K is a key, and of `crash` a count of bytes, as their rows say.
-    parts += [head(f"  {name}", letters[name]) for name in used if name != "K" or len(rows[0].form.split()) == 3]
+    parts += [head(f"  {name}", letters[name]) for name in used if name != "K" or rows[0].form.endswith(" Q K")]
     fits = [it.form.split() for it in rows if len(it.form.split()) == len(words_of) or it.form.endswith(" BODY")]
     if len(words_of) > 1 and fits:
         given = " ".join(words_of).split(" ", len(fits[-1]) - 1)

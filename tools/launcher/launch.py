@@ -44,7 +44,13 @@ def main(program, *given):
     first = SAME.get(given[0], given[0]) if given else ""
     if first in OWN:
         module = importlib.import_module(OWN[first])
-        return getattr(module, first)(program, list(given[1:]))
+        try:
+            status = getattr(module, first)(program, list(given[1:]))
+            sys.stdout.flush()
+            return status
+        except BrokenPipeError:
+            os.dup2(os.open(os.devnull, os.O_WRONLY), 1)
+            return 6
     return run(program, list(given))
 
 

@@ -278,7 +278,7 @@ def queues(program, given):
             if not found:
                 raise Unread(f"{words[0]} has no audit: a run prints it at its end")
         else:
-            raise Unread(f"this is no form of it: {table.COMMANDS['queues'].form}")
+            raise Unread(f"its form is ./qq {table.COMMANDS['queues'].form}")
     except (OSError, Unread) as error:
         print(f"qq: {error}", file=sys.stderr)
         return 2

@@ -124,7 +124,10 @@ class PassedInput:
 
 
 def input_of():
-    kind = os.fstat(0).st_mode
+    try:
+        kind = os.fstat(0).st_mode
+    except OSError:
+        return None
     if stat.S_ISREG(kind):
         return FileInput()
     return None if stat.S_ISCHR(kind) and not os.isatty(0) else PassedInput()

@@ -106,7 +106,7 @@ class Script:
         form = " or ".join(f"`{it.form}`" for it in table.lines().get(word, ()))
         if len(given) != len(forms) or forms and forms[-1] not in ("BODY", "IMAGE") and " " in given[-1]:
             count = len(rest.split(" ")) if " " in line else 0
-            what = f"{count} word{'s' * (count != 1)} behind its first"
+            what = f"{table.count(count, 'word')} behind its first"
             what = "no body, which may be empty behind a blank" if forms == ["BODY"] else what
             return f"it has {what}; its form is {form}"
         for kind, each in zip(forms, given):

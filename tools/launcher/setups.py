@@ -97,11 +97,13 @@ def guess(root, now):
 
 
 def queue_text(setup, place):
+    """Returns a queue as a difference shows it."""
     if place >= len(setup.queues):
         return "none"
-    name, arguments = setup.queues[place]
+    (name, arguments), size = setup.queues[place], groups(setup)[place]
     shown = {key: value for key, value in arguments.items() if key != "x-quorum-initial-group-size"}
-    return f"`{name}` over {groups(setup)[place]} of the nodes" + (f" {json.dumps(shown, sort_keys=True)}" if shown else "")
+    where = "1 node" if size == 1 else f"{size} nodes"
+    return f"`{name}` over {where}" + (f" {json.dumps(shown, sort_keys=True)}" if shown else "")
 
 
 def differences(made, now):
@@ -115,7 +117,7 @@ def differences(made, now):
         for place in range(max(len(made.queues), len(now.queues))):
             texts = queue_text(made, place), queue_text(now, place)
             if texts[0] != texts[1]:
-                found.append(f"queue {place + 1}: made as {texts[0]}, now {texts[1]}")
+                found.append(f"queue {place + 1}: made with {texts[0]}, now {texts[1]}")
     elif names(made) != names(now):
         found.append(f"queues: made with {', '.join(names(made)) or 'none'}, now {', '.join(names(now)) or 'none'}")
     return found
@@ -147,7 +149,10 @@ def why_not(made, now):
 
 def taken(root, setup):
     """Says which sessions' numbers are taken in a folder."""
-    found, is_all = logs.sessions_in(root, READ_SECONDS)
+    try:
+        found, is_all = logs.sessions_in(root, READ_SECONDS)
+    except OSError:
+        return []
     sessions = sorted({session for of in found.values() for session in of})
     if not sessions:
         return [] if is_all else ["some of the sessions' numbers are taken there: its logs are long, and weren't read whole"]

@@ -50,18 +50,24 @@ ADVICE = {
     2: "`./qq help` shows the commands, and `./qq help script` the options.",
     3: "`./qq check FILE` names all that is refused in an export. Change a copy of it; docs/DEFINITIONS.md says what "
        "becomes of each field.",
-    4: "`./qq check FILE` names all such lines before anything runs. The lines before it were served; the audits come "
-       "only at the end of a script without a fault. Over a folder they are printed by a run with no lines.",
+    4: "The lines before it were served. The audits come at the end of a script alone; `./qq check FILE` reads all lines "
+       "before anything runs.",
     5: "Look whether the file is there, and whether you may read it.",
     6: "What was confirmed before stands. Look whether the disk is full, or what read the output has ended.",
     7: "Look who has the folder, whether it may be written to, and whether there is room on the disk.",
-    8: "Keep a copy of the folder. Put the file back as it was, or move the node's folder away: with two other nodes "
-       "of three the queue goes on (docs/DISK.md).",
-    9: "Put the right folders back, and give the number of nodes with which the folder was made.",
+    8: "Keep a copy of the whole folder first. Then put the file back as it was. A node whose folder is moved away begins "
+       "anew: the opening may be refused as lost, and confirmed messages may be lost with it.",
+    9: "Keep a copy of the whole folder first. Then put the right folders back, and give the words with which it was made. "
+       "A folder that is gone for good can't be replaced by an empty one yet.",
     11: "A body has at most 65,536 bytes, a script 10,000,000 lines, an export 1,024 queues.",
     12: "Give it more memory, or fewer messages: a run keeps all that it has served.",
     20: "The count has no room above. Begin with a new folder.",
 }
+
+
+def count(number, what):
+    """Returns a number of things in words."""
+    return f"{number:,} {what}" + ("" if number == 1 else "s")
 
 
 def cells(row):

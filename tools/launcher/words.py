@@ -49,8 +49,9 @@ def read_option(command, word, rest, values):
     name, equals, value = word.partition("=")
     option = table.options().get(name)
     if name not in allowed(command):
-        where = " and ".join(f"`{it}`" for it in table.PROGRAM if name in allowed(it))
-        known = f"{where} has it; its own are " * bool(where) + ", ".join(allowed(command))
+        where = [f"`{it}`" for it in table.PROGRAM if name in allowed(it)]
+        has = f"{' and '.join(where)} {'has' if len(where) == 1 else 'have'} it; its own are "
+        known = has * bool(where) + ", ".join(allowed(command))
         raise Wrong(f"`{command}` has no option `{name}`: {known}{near(name, allowed(command))}")
     if name in values:
         raise Wrong(f"`{name}` is given twice")
