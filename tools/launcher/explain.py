@@ -157,8 +157,11 @@ def of_damage(_given, asked, _input):
         return ["the bytes that a `crash N junk HEX` of the script left break the rules of a log: that is what junk may do"]
     told = []
     for node in logs.nodes_in(root):
-        log = logs.Log(logs.folder_of(root, node))
-        log.read()
+        try:
+            log = logs.Log(logs.folder_of(root, node))
+            log.read()
+        except OSError:
+            continue
         if log.damage:
             told.append(f"{log.damage.path} breaks the log's rules at byte {log.damage.place}: {log.damage.why}")
         else:
@@ -201,11 +204,15 @@ def of_loss(_given, asked, _input):
     setup, rows, kept = setups.of_words(asked), [], {}
     for node in range(1, setup.nodes + 1):
         folder = logs.folder_of(root, node)
-        log = logs.Log(folder)
+        try:
+            log = logs.Log(folder)
+            log.read()
+        except OSError as error:
+            rows.append(f"{folder}: its log can't be read ({error.strerror}): without the node that led last none goes on")
+            continue
         if not log.chain:
             rows.append(f"{folder}: no log files, so it counts as a node that never had anything")
             continue
-        log.read()
         if not log.lanes:
             rows.append(f"{folder}: its log has nothing of any queue, as one that begins anew")
         for queue in sorted(log.lanes)[:MOST_ROWS]:
@@ -217,7 +224,7 @@ def of_loss(_given, asked, _input):
     others = [logs.folder_of(root, node) for node in logs.nodes_in(root) if node > setup.nodes]
     rows += [f"{folder}: a node that --nodes {setup.nodes} leaves out" for folder in others]
     made = setups.read(root)
-    return [f"the logs under {root} can't be what one group of nodes left: a folder is another run's, is gone, or wrote on "
+    return [f"the logs under {root} can't be what one group of nodes left: a folder is another run's, is gone, can't be read, or wrote on "
             "without the others", *(f"  {row}" for row in rows),
             *([f"  it was made with: {setups.words_of(made)}"] if made else [])]
 
@@ -237,6 +244,14 @@ REASONS = {2: of_words, 3: of_export, 4: of_line, 5: of_input, 6: of_output, 7: 
            11: of_limit, 12: of_memory, 20: of_spent}
 
 
+def has_avx2():
+    try:
+        with open("/proc/cpuinfo", encoding="utf-8") as file:
+            return " avx2 " in file.read()
+    except OSError:
+        return True
+
+
 # What ends the program from outside, or in a build that isn't proved.
 SIGNALS = {
     "SIGKILL": ["  somebody has ended it, or the system has, for want of memory (dmesg says so). What it had printed as "
@@ -245,6 +260,7 @@ SIGNALS = {
     **dict.fromkeys(("SIGILL", "SIGTRAP", "SIGABRT", "SIGSEGV"), [
         "  so ends a program that isn't proved, where a check of it fails: please report the words and the script"]),
 }
+NO_AVX2 = "  the proved program wants a processor with AVX2, and this one hasn't it: build it for another (cpu.txt)"
 
 
 def of_status(status, given, source):
@@ -253,7 +269,8 @@ def of_status(status, given, source):
         return []
     if status < 0:
         name = signal.Signals(-status).name
-        return [f"the program was ended by the signal {name}", *SIGNALS.get(name, [])]
+        told = SIGNALS.get(name, []) if name != "SIGILL" or has_avx2() else [NO_AVX2]
+        return [f"the program was ended by the signal {name}", *told]
     row = table.statuses().get(status)
     asked = asked_of(given)
     if row is None or status not in REASONS or asked is None and status != 2:
