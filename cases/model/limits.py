@@ -1,5 +1,5 @@
-"""A queue with RabbitMQ's arguments, by the rules of docs/MACHINE.md and docs/DEFINITIONS.md: delivery and length limits,
-what a full queue does, and dead messages that stay at their source."""
+"""A queue with RabbitMQ's arguments, by the rules of docs/MACHINE.md and docs/DEFINITIONS.md: delivery and length
+limits, what a full queue does, and dead messages that stay at their source."""
 from machine import LIVE, Queue, QuickRows, RETURNS
 
 UNLIMITED = -1
@@ -14,8 +14,11 @@ class LimitedQueue(Queue):
         self.limit = arguments.get("x-delivery-limit", RETURNS)
         self.length, self.bytes = arguments.get("x-max-length"), arguments.get("x-max-length-bytes")
         self.rejects = arguments.get("x-overflow") == "reject-publish"
-        self.keeps_dead = (self.rejects and arguments.get("x-dead-letter-strategy") == "at-least-once"
-                           and "x-dead-letter-exchange" in arguments)
+        self.keeps_dead = (
+            self.rejects
+            and arguments.get("x-dead-letter-strategy") == "at-least-once"
+            and "x-dead-letter-exchange" in arguments
+        )
         self.died, self.dead = [], []
 
     def step(self, command):
@@ -32,8 +35,11 @@ class LimitedQueue(Queue):
         return sum(len(row.body) for _, row in self.rows.heap)
 
     def is_over(self):
-        return self.length is not None and self.ready_count() > self.length or (
-            self.bytes is not None and self.ready_bytes() > self.bytes)
+        return (
+            self.length is not None
+            and self.ready_count() > self.length
+            or (self.bytes is not None and self.ready_bytes() > self.bytes)
+        )
 
     def do_enqueue(self, command, consumer):
         if self.rejects and self.length is not None and self.ready_count() >= self.length:

@@ -44,12 +44,12 @@ def row_of(line):
 
 
 def audits_of(lines):
-    """Returns the audits at the end of the lines, and the lines before them. A queue's audit has as many rows as its head
-    says."""
+    """Returns the audits at the end of the lines, and the lines before them. A queue's audit has as many rows as its
+        head says."""
     found, at = [], 0
     while at < len(lines):
         head = HEAD.fullmatch(lines[at])
-        rows = lines[at + 1:at + 1 + int(head[3])] if head else []
+        rows = lines[at + 1 : at + 1 + int(head[3])] if head else []
         if head and len(rows) == int(head[3]) and all(row[:1].isdigit() for row in rows):
             try:
                 found.append((at, Audit(head[1], int(head[2]), [row_of(row) for row in rows])))

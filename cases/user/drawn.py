@@ -12,11 +12,16 @@ def main():
         kinds = Counter(event["kind"] for event in data["events"])
         ends = {event["id"] for event in data["events"] if event["kind"] in ("deliver", "lose")}
         sent = {event["id"] for event in data["events"] if event["kind"] == "send"}
-        leaders = [f"node {event['node']} in term {event['term']}" for event in data["events"]
-                   if event["kind"] == "role" and event["role"] == "leader"]
-        print(f"{name}: {len(data['script'])} lines, {kinds['crash']} crashes, {kinds['restart']} restarts, leaders "
-              f"{', '.join(leaders)}; of the messages sent {'all' if ends <= sent else 'not all'} that came or were lost were "
-              f"sent, {'some' if kinds['lose'] else 'none'} were lost")
+        leaders = [
+            f"node {event['node']} in term {event['term']}"
+            for event in data["events"]
+            if event["kind"] == "role" and event["role"] == "leader"
+        ]
+        print(
+            f"{name}: {len(data['script'])} lines, {kinds['crash']} crashes, {kinds['restart']} restarts, leaders "
+            f"{', '.join(leaders)}; of the messages sent {'all' if ends <= sent else 'not all'} that came or were lost "
+            f"were sent, {'some' if kinds['lose'] else 'none'} were lost"
+        )
         for it in data["confirms"]:
             print(f"  line {it['line']} {it['text']}: {data['queues'][it['queue']]['rows'][it['row'] - 1]}")
         for event in data["events"]:

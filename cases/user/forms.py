@@ -8,8 +8,10 @@ SEVERAL = {"crash": 2, "credit": 6}
 
 def main():
     page = {name: {len(it.form.split()) - 1 for it in forms} for name, forms in table.lines().items()}
-    print(f"{len(page)} lines, of which the model lacks {sorted(page.keys() - FORMS.keys())} and the page "
-          f"{sorted(FORMS.keys() - page.keys())}")
+    print(
+        f"{len(page)} lines, of which the model lacks {sorted(page.keys() - FORMS.keys())} and the page "
+        f"{sorted(FORMS.keys() - page.keys())}"
+    )
     for name, form in FORMS.items():
         wanted = len(form.split())
         counts = page.get(name, set())

@@ -1,5 +1,5 @@
-"""Runs what a page shows: paged.py PAGE.., in the folder where ./qq is. In a page's indented blocks `$ ` begins a command,
-and the lines after it are what it prints; `$ cat FILE` shows a file, which is made first."""
+"""Runs what a page shows: paged.py PAGE.., in the folder where ./qq is. In a page's indented blocks `$ ` begins a
+command, and the lines after it are what it prints; `$ cat FILE` shows a file, which is made first."""
 import re
 import subprocess
 import sys
@@ -33,8 +33,14 @@ def main():
                 continue
             if not command.startswith("./qq "):
                 continue
-            done = subprocess.run(command, shell=True, stdin=subprocess.DEVNULL, stdout=subprocess.PIPE,
-                                  stderr=subprocess.DEVNULL, check=False)
+            done = subprocess.run(
+                command,
+                shell=True,
+                stdin=subprocess.DEVNULL,
+                stdout=subprocess.PIPE,
+                stderr=subprocess.DEVNULL,
+                check=False,
+            )
             found = done.stdout.decode().split("\n")[:-1]
             count += 1
             if found != wanted:

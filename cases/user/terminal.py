@@ -1,5 +1,5 @@
-"""Runs ./qq with a terminal as its standard error, and says what it shows there: a script from a file, one from a pipe, and a
-short one."""
+"""Runs ./qq with a terminal as its standard error, and says what it shows there: a script from a file, one from a
+pipe, and a short one."""
 import os
 import pty
 import re

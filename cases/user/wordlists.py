@@ -1,5 +1,5 @@
-"""Reads the worked lists of words, and says for how many of them the launcher's rules and the worked answers agree, and how
-many explanations there are: wordlists.py TREE."""
+"""Reads the worked lists of words, and says for how many of them the launcher's rules and the worked answers agree,
+and how many explanations there are: wordlists.py TREE."""
 import glob
 import os
 import sys
@@ -34,8 +34,10 @@ def main():
         differ += was != is_command
         if was != is_command:
             print(f"{row}: {'a command' if was else 'no command'}")
-    print(f"{'more than 200' if agree > 200 else agree} agree, {differ} differ, "
-          f"{'more than 90' if len(told) > 90 else len(told)} explanations")
+    print(
+        f"{'more than 200' if agree > 200 else agree} agree, {differ} differ, "
+        f"{'more than 90' if len(told) > 90 else len(told)} explanations"
+    )
 
 
 if __name__ == "__main__":

@@ -17,7 +17,7 @@ def check(_program, given):
     fault."""
     files = [word for word in given[:1] if not word.startswith("--")]
     try:
-        asked = words.read(["script", *given[len(files):]])
+        asked = words.read(["script", *given[len(files) :]])
     except words.Wrong as wrong:
         print(f"qq: {wrong}", file=sys.stderr)
         return 2

@@ -1,4 +1,5 @@
-"""./qq drill N --check: the independent model runs the lines of a drill too, and its counts stand beside the program's."""
+"""./qq drill N --check: the independent model runs the lines of a drill too, and its counts stand beside the
+program's."""
 import subprocess
 import sys
 
@@ -26,7 +27,9 @@ def compare(program, asked):
     wanted, wrong = model(number, nodes)
     print(f"qq: the model prints\n{wanted}", file=sys.stderr)
     for session, queue, confirmed in wrong:
-        print(f"qq: confirmed {confirmed} of session {session} at {queue} hasn't one publish of its own", file=sys.stderr)
+        print(
+            f"qq: confirmed {confirmed} of session {session} at {queue} hasn't one publish of its own", file=sys.stderr
+        )
     agrees = printed.stdout.decode("latin-1") == wanted + "\n" and not wrong
     print(f"qq: they {'agree' if agrees else 'differ'}", file=sys.stderr)
     return 0 if agrees else 1

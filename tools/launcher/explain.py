@@ -1,5 +1,5 @@
-"""Says what a status of the program means here, and what can be done. It looks at the words, the input and the folder, and
-never at what the program prints."""
+"""Says what a status of the program means here, and what can be done. It looks at the words, the input and the
+folder, and never at what the program prints."""
 import fcntl
 import os
 import resource
@@ -32,6 +32,7 @@ def script_of(asked):
 
 
 # Words, exports and lines
+
 
 def of_words(given, _asked, _input):
     try:
@@ -84,6 +85,7 @@ def of_output(*_):
 
 
 # Folders
+
 
 def holder(path):
     """Returns the process that has a lock on a file, or None where nobody has."""
@@ -154,7 +156,9 @@ def of_yard(_given, asked, _input):
 def of_damage(_given, asked, _input):
     root = asked.values.get("--root")
     if root is None:
-        return ["the bytes that a `crash N junk HEX` of the script left break the rules of a log: that is what junk may do"]
+        return [
+            "the bytes that a `crash N junk HEX` of the script left break the rules of a log: that is what junk may do"
+        ]
     told = []
     for node in logs.nodes_in(root):
         try:
@@ -174,13 +178,17 @@ def unlisted(root, node, log, setup):
     if setup is None:
         return []
     groups = setups.groups(setup)
-    mine = {place + 1 for place, size in enumerate(groups) for k in range(size) if (place + k) % setup.nodes + 1 == node}
+    mine = {
+        place + 1 for place, size in enumerate(groups) for k in range(size) if (place + k) % setup.nodes + 1 == node
+    }
     others = sorted(set(log.lanes) - mine)
     if not others:
         return []
     made = setups.read(root)
-    return [f"{logs.folder_of(root, node)} has records of queue {', '.join(map(str, others[:MOST_ROWS]))}, of which node "
-            f"{node} is no member by these words" + (f"; it was made with: {setups.words_of(made)}" if made else "")]
+    return [
+        f"{logs.folder_of(root, node)} has records of queue {', '.join(map(str, others[:MOST_ROWS]))}, of which node "
+        f"{node} is no member by these words" + (f"; it was made with: {setups.words_of(made)}" if made else "")
+    ]
 
 
 def conflicts(root, kept):
@@ -192,15 +200,19 @@ def conflicts(root, kept):
             index = next((at for at, (a, b) in enumerate(pairs, 1) if a.term == b.term and a != b), None)
             if index:
                 folders = " and ".join(logs.folder_of(root, node) for node in (one, other))
-                found.append(f"{folders} have different entries {index} of queue {queue} in one term: they are of two runs")
+                found.append(
+                    f"{folders} have different entries {index} of queue {queue} in one term: they are of two runs"
+                )
     return found[:MOST_ROWS]
 
 
 def of_loss(_given, asked, _input):
     root = asked.values.get("--root")
     if root is None:
-        return ["a restart found fewer ops of a queue than its member had been told of: the bytes of a `crash N junk HEX` "
-                "of the script may do that"]
+        return [
+            "a restart found fewer ops of a queue than its member had been told of: the bytes of a `crash N junk HEX` "
+            "of the script may do that"
+        ]
     setup, rows, kept = setups.of_words(asked), [], {}
     for node in range(1, setup.nodes + 1):
         folder = logs.folder_of(root, node)
@@ -208,7 +220,9 @@ def of_loss(_given, asked, _input):
             log = logs.Log(folder)
             log.read()
         except OSError as error:
-            rows.append(f"{folder}: its log can't be read ({error.strerror}): without the node that led last none goes on")
+            rows.append(
+                f"{folder}: its log can't be read ({error.strerror}): without the node that led last none goes on"
+            )
             continue
         if not log.chain:
             rows.append(f"{folder}: no log files, so it counts as a node that never had anything")
@@ -224,9 +238,12 @@ def of_loss(_given, asked, _input):
     others = [logs.folder_of(root, node) for node in logs.nodes_in(root) if node > setup.nodes]
     rows += [f"{folder}: a node that --nodes {setup.nodes} leaves out" for folder in others]
     made = setups.read(root)
-    return [f"the logs under {root} can't be what one group of nodes left: a folder is another run's, is gone, can't be read, or wrote on "
-            "without the others", *(f"  {row}" for row in rows),
-            *([f"  it was made with: {setups.words_of(made)}"] if made else [])]
+    return [
+        f"the logs under {root} can't be what one group of nodes left: a folder is another run's, is gone, can't be "
+        "read, or wrote on without the others",
+        *(f"  {row}" for row in rows),
+        *([f"  it was made with: {setups.words_of(made)}"] if made else []),
+    ]
 
 
 def of_memory(*_):
@@ -240,8 +257,19 @@ def of_spent(*_):
     return ["a number stands at its end: the printed one can't rise any more"]
 
 
-REASONS = {2: of_words, 3: of_export, 4: of_line, 5: of_input, 6: of_output, 7: of_yard, 8: of_damage, 9: of_loss,
-           11: of_limit, 12: of_memory, 20: of_spent}
+REASONS = {
+    2: of_words,
+    3: of_export,
+    4: of_line,
+    5: of_input,
+    6: of_output,
+    7: of_yard,
+    8: of_damage,
+    9: of_loss,
+    11: of_limit,
+    12: of_memory,
+    20: of_spent,
+}
 
 
 def has_avx2():
@@ -254,11 +282,15 @@ def has_avx2():
 
 # What ends the program from outside, or in a build that isn't proved.
 SIGNALS = {
-    "SIGKILL": ["  somebody has ended it, or the system has, for want of memory (dmesg says so). What it had printed as "
-                "confirmed is there at the next run over the same folder"],
+    "SIGKILL": [
+        "  somebody has ended it, or the system has, for want of memory (dmesg says so). What it had printed as "
+        "confirmed is there at the next run over the same folder"
+    ],
     "SIGXFSZ": ["  a file may have no more bytes here (ulimit -f)"],
-    **dict.fromkeys(("SIGILL", "SIGTRAP", "SIGABRT", "SIGSEGV"), [
-        "  so ends a program that isn't proved, where a check of it fails: please report the words and the script"]),
+    **dict.fromkeys(
+        ("SIGILL", "SIGTRAP", "SIGABRT", "SIGSEGV"),
+        ["  so ends a program that isn't proved, where a check of it fails: please report the words and the script"],
+    ),
 }
 NO_AVX2 = "  the proved program wants a processor with AVX2, and this one hasn't it: build it for another (cpu.txt)"
 

@@ -5,9 +5,16 @@ from collections import namedtuple
 
 import table
 
-LIMITS = {"x-quorum-initial-group-size": (1, 7), "x-max-length": (0, 2**63 - 1), "x-max-length-bytes": (0, 2**63 - 1)}
-CHOICES = {"x-queue-type": ("quorum", "classic", "stream"), "x-overflow": ("drop-head", "reject-publish"),
-           "x-dead-letter-strategy": ("at-most-once", "at-least-once")}
+LIMITS = {
+    "x-quorum-initial-group-size": (1, 7),
+    "x-max-length": (0, 2**63 - 1),
+    "x-max-length-bytes": (0, 2**63 - 1),
+}
+CHOICES = {
+    "x-queue-type": ("quorum", "classic", "stream"),
+    "x-overflow": ("drop-head", "reject-publish"),
+    "x-dead-letter-strategy": ("at-most-once", "at-least-once"),
+}
 TEXTS = ("x-dead-letter-exchange", "x-dead-letter-routing-key")
 PASSED_OVER = ("x-queue-leader-locator", "x-queue-version", "x-max-in-memory-length", "x-max-in-memory-bytes")
 KINDS = ("direct", "fanout", "topic")
@@ -39,8 +46,12 @@ class Reader:
         if not isinstance(document, dict):
             self.fault("the file", "it is no object, as an export is")
             return
-        for key, one in (("policies", self.policy), ("queues", self.queue), ("exchanges", self.exchange),
-                         ("bindings", self.binding)):
+        for key, one in (
+            ("policies", self.policy),
+            ("queues", self.queue),
+            ("exchanges", self.exchange),
+            ("bindings", self.binding),
+        ):
             listed = document.get(key, None if key == "queues" else [])
             if not isinstance(listed, list):
                 self.fault(f"`{key}`", "it is missing" if key not in document else "it is no list")
@@ -54,7 +65,9 @@ class Reader:
         if self.ignores_policies:
             return
         name = item.get("name") if isinstance(item, dict) else None
-        self.fault(f"policy `{name}`" if name else where, "policies aren't followed here; --ignore-policies passes over all")
+        self.fault(
+            f"policy `{name}`" if name else where, "policies aren't followed here; --ignore-policies passes over all"
+        )
 
     def fields(self, where, item, wanted):
         """Says whether an item has fields of these types. Names those that it lacks."""
@@ -103,8 +116,11 @@ class Reader:
             why = argument_fault(name, value)
             if why:
                 self.fault(where, why)
-        used = {name: value for name, value in sorted(item["arguments"].items())
-                if name.startswith("x-") and name not in (*PASSED_OVER, "x-queue-type")}
+        used = {
+            name: value
+            for name, value in sorted(item["arguments"].items())
+            if name.startswith("x-") and name not in (*PASSED_OVER, "x-queue-type")
+        }
         self.queues.append(Queue(item["name"], used))
 
     def name(self, where, name):
@@ -141,17 +157,19 @@ class Reader:
         self.bindings += 1
 
     def export(self):
-        counts = (f"{table.count(len(self.queues), 'quorum queue')}, "
-                  f"{table.count(len(self.exchanges) - len(BUILT_IN), 'exchange')}, {table.count(self.bindings, 'binding')}; "
-                  f"skipped: {table.count(len(self.skipped), 'queue')} of other types, "
-                  f"{table.count(self.others, 'item')} of other virtual hosts")
+        counts = (
+            f"{table.count(len(self.queues), 'quorum queue')}, "
+            f"{table.count(len(self.exchanges) - len(BUILT_IN), 'exchange')}, {table.count(self.bindings, 'binding')}; "
+            f"skipped: {table.count(len(self.skipped), 'queue')} of other types, "
+            f"{table.count(self.others, 'item')} of other virtual hosts"
+        )
         return Export(self.queues, self.faults, counts)
 
 
 def integer(word):
     """An integer that doesn't fit 64 bits, and -0, are floats."""
     value = int(word)
-    return value if word != "-0" and -2**63 <= value < 2**64 else float(word)
+    return value if word != "-0" and -(2**63) <= value < 2**64 else float(word)
 
 
 def real(word):

@@ -14,8 +14,14 @@ TOPICS = ("commands", "options", "lines", "texts", "statuses")
 
 
 def paragraph(text, indent=2):
-    return textwrap.fill(text, 100, initial_indent=" " * indent, subsequent_indent=" " * indent,
-                         break_long_words=False, break_on_hyphens=False)
+    return textwrap.fill(
+        text,
+        100,
+        initial_indent=" " * indent,
+        subsequent_indent=" " * indent,
+        break_long_words=False,
+        break_on_hyphens=False,
+    )
 
 
 def head(form, text):
@@ -38,8 +44,17 @@ def of_command(name):
 
 def of_commands():
     rows = [head(f"./qq {it.form}", it.meaning) for it in table.COMMANDS.values()]
-    return "\n".join([*rows, "", paragraph("./qq help COMMAND, --OPTION, a line's first word or whole line, a printed word, a "
-                     f"status's number, or one of {', '.join(TOPICS)} says more. docs/SCRIPT.md has it all.", 0)])
+    return "\n".join(
+        [
+            *rows,
+            "",
+            paragraph(
+                "./qq help COMMAND, --OPTION, a line's first word or whole line, a printed word, a "
+                f"status's number, or one of {', '.join(TOPICS)} says more. docs/SCRIPT.md has it all.",
+                0,
+            ),
+        ]
+    )
 
 
 def of_line(words_of):
@@ -90,7 +105,9 @@ def explained(given):
     if first.isdigit() and int(first) in table.statuses():
         yield of_status(int(first))
     found = [head(form, meaning) for form, meaning in table.texts() if first in form.split() and not first.isupper()]
-    found += [of_status(it.number) for it in table.statuses().values() if re.search(rf"`{re.escape(first)}\b", it.printed)]
+    found += [
+        of_status(it.number) for it in table.statuses().values() if re.search(rf"`{re.escape(first)}\b", it.printed)
+    ]
     if found:
         yield "\n".join(["printed", *found])
 
@@ -105,7 +122,10 @@ def help(_program, given):
         print("\n\n".join(found))
         return 0
     known = [*table.COMMANDS, *table.options(), *table.lines(), *TOPICS]
-    print(f"qq: there is no help on `{given[0]}`{words.near(given[0], known)}; ./qq help names the commands", file=sys.stderr)
+    print(
+        f"qq: there is no help on `{given[0]}`{words.near(given[0], known)}; ./qq help names the commands",
+        file=sys.stderr,
+    )
     return 2
 
 
@@ -141,8 +161,9 @@ def kit_of_readme():
 
 def version(program, _given):
     made = released()
-    proved = made.get("program") or ("proved" if "/crates/" in program else
-                                     "built with no proof" if program else "not built yet")
+    proved = made.get("program") or (
+        "proved" if "/crates/" in program else "built with no proof" if program else "not built yet"
+    )
     print(f"commit {made.get('commit') or commit()}")
     print(f"kit {made.get('kit') or output('rt', 'version') or kit_of_readme()}")
     print(f"program {proved}" + (f", {program}" if program else ""))

@@ -10,8 +10,14 @@ import table
 import words
 
 # The launcher's own commands, each with the module that has it as `main`.
-OWN = {"help": "helping", "version": "helping", "check": "checking", "queues": "queues", "picture": "picture",
-       "storm": "storm"}
+OWN = {
+    "help": "helping",
+    "version": "helping",
+    "check": "checking",
+    "queues": "queues",
+    "picture": "picture",
+    "storm": "storm",
+}
 SAME = {"--help": "help", "-h": "help", "--version": "version", "-V": "version"}
 
 

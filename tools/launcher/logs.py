@@ -15,8 +15,17 @@ from raft import Entry
 
 HEADER, RECORD, MARK = 38, 25, 8
 KINDS = {1: "change", 2: "snapshot", 3: "segment", 4: "carry"}
-STAMPED = {1: "enqueue", 2: "get", 3: "subscribe", 4: "cancel", 5: "credit", 6: "settle", 7: "return", 8: "discard",
-           9: "purge"}
+STAMPED = {
+    1: "enqueue",
+    2: "get",
+    3: "subscribe",
+    4: "cancel",
+    5: "credit",
+    6: "settle",
+    7: "return",
+    8: "discard",
+    9: "purge",
+}
 Record = namedtuple("Record", "file place kind queue op payload")
 # What is wrong with a log file: its path, the first byte of what is wrong there, and why.
 Damage = namedtuple("Damage", "path place why")
@@ -97,15 +106,17 @@ class Log:
             text, place = self.bytes_of(number), HEADER
             salt, end = struct.pack(">Q", number), len(text) if good is None else good
             while place < end:
-                size = int.from_bytes(text[place:place + 4], "big")
+                size = int.from_bytes(text[place : place + 4], "big")
                 stop = place + RECORD + size
-                if stop > end or mark(salt, text[place:stop - MARK]) != text[stop - MARK:stop]:
+                if stop > end or mark(salt, text[place : stop - MARK]) != text[stop - MARK : stop]:
                     break
-                kind, queue, op = struct.unpack(">BIQ", text[place + 4:place + 17])
-                yield Record(number, place, kind, queue, op, text[place + 17:stop - MARK])
+                kind, queue, op = struct.unpack(">BIQ", text[place + 4 : place + 17])
+                yield Record(number, place, kind, queue, op, text[place + 17 : stop - MARK])
                 place = stop
             if good is not None and place != good:
-                self.refuse(number, place, f"a record isn't whole there; the next file names {good:,} bytes of this one")
+                self.refuse(
+                    number, place, f"a record isn't whole there; the next file names {good:,} bytes of this one"
+                )
                 return
 
     def read(self, until=None):
@@ -115,8 +126,12 @@ class Log:
             if record.kind == 1 and record.op == lane.op + 1:
                 change(lane, record)
             elif record.kind != 4 or not carries(lane, record, bool(self.chain) and record.file == self.chain[0][0]):
-                self.refuse(record.file, record.place, f"{KINDS.get(record.kind, 'a record')} {record.op} of queue "
-                            f"{record.queue} doesn't follow what stands before it")
+                self.refuse(
+                    record.file,
+                    record.place,
+                    f"{KINDS.get(record.kind, 'a record')} {record.op} of queue "
+                    f"{record.queue} doesn't follow what stands before it",
+                )
                 return False
             if until and count % 64 == 0 and time.monotonic() > until:
                 return False
@@ -130,15 +145,15 @@ def change(lane, record):
     del lane.entries[keep:]
     place = 21
     for _ in range(count):
-        term, size = struct.unpack(">QI", record.payload[place:place + 12])
-        lane.entries.append(Entry(term, command_of(record.payload[place + 12:place + 12 + size]), 12 + size))
+        term, size = struct.unpack(">QI", record.payload[place : place + 12])
+        lane.entries.append(Entry(term, command_of(record.payload[place + 12 : place + 12 + size]), 12 + size))
         place += 12 + size
 
 
 def carries(lane, record, is_first):
     """Says whether a carry restates the lane. The first file's gives the lane its beginning."""
     term, vote = struct.unpack(">QB", record.payload[:9])
-    last, = struct.unpack(">Q", record.payload[-8:])
+    (last,) = struct.unpack(">Q", record.payload[-8:])
     if is_first and lane.op == 0 and last == 0:
         lane.op, lane.term, lane.vote = record.op, term, vote
     return (lane.op, lane.term, lane.vote, len(lane.entries)) == (record.op, term, vote, last)
@@ -158,8 +173,8 @@ def command_of(text):
     if kind == 1:
         rest = rest[1:] if rest[0] == 0 else rest[13:]
         size = int.from_bytes(rest[:4], "big")
-        more["body"] = rest[4:4 + size].decode("latin-1")
-        more["key"] = rest[5 + size:5 + size + rest[4 + size]].decode("latin-1")
+        more["body"] = rest[4 : 4 + size].decode("latin-1")
+        more["key"] = rest[5 + size : 5 + size + rest[4 + size]].decode("latin-1")
     elif kind in (3, 4, 5, 6, 7, 8):
         more["tag"] = int.from_bytes(rest[:4], "big")
     if kind == 3 and rest[4] == 0:

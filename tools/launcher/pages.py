@@ -29,32 +29,56 @@ def option_text(it):
 
 def manual():
     """Returns the man page."""
-    rows = [".\\\" Made by tools/launcher/pages.py from its table: change that, or docs/SCRIPT.md.", ".TH QQ 1", ".SH NAME",
-            "qq \\- a replicated message broker whose functions are proved", ".SH SYNOPSIS"]
+    rows = [
+        '.\\" Made by tools/launcher/pages.py from its table: change that, or docs/SCRIPT.md.',
+        ".TH QQ 1",
+        ".SH NAME",
+        "qq \\- a replicated message broker whose functions are proved",
+        ".SH SYNOPSIS",
+    ]
     rows += [f".B qq {roff(it.form)}\n.br" for it in table.COMMANDS.values()]
-    rows += [".SH DESCRIPTION", roff(
-        "A script publishes and consumes messages, loses and reorders what nodes send one another, crashes nodes and "
-        "restarts them. Each queue behaves as a RabbitMQ quorum queue over nodes in one process. It opens no socket. What "
-        "it prints as `confirmed` stands in the audit that it prints at the end, whatever crashes.")]
+    rows += [
+        ".SH DESCRIPTION",
+        roff(
+            "A script publishes and consumes messages, loses and reorders what nodes send one another, crashes nodes "
+            "and restarts them. Each queue behaves as a RabbitMQ quorum queue over nodes in one process. It opens no "
+            "socket. What "
+            "it prints as `confirmed` stands in the audit that it prints at the end, whatever crashes."
+        ),
+    ]
     rows += part("COMMANDS", [(f"qq {it.form}", it.meaning) for it in table.COMMANDS.values()])
     rows += part("OPTIONS", [(f"{it.name} {it.value}".rstrip(), option_text(it)) for it in table.options().values()])
     rows += part("WORDS OF A LINE", table.letters().items())
     rows += part("LINES OF A SCRIPT", [(it.form, it.meaning) for forms in table.lines().values() for it in forms])
     rows += part("WHAT IS PRINTED", table.texts())
     rows += part("FAULTS OF A LINE", table.faults().items())
-    rows += part("EXIT STATUS", [(str(it.number), f"{it.comes[:1].upper()}{it.comes[1:]}. Printed last: {it.printed}. "
-                                  f"{it.advice}") for it in table.statuses().values()])
-    rows += part("FILES", [("DIR/node-N", "the log files of node N"), ("DIR/lock", "locked by the process that has the folder"),
-                           ("DIR/setup", "what the folder was made with, which each later run is compared with")])
+    rows += part(
+        "EXIT STATUS",
+        [
+            (str(it.number), f"{it.comes[:1].upper()}{it.comes[1:]}. Printed last: {it.printed}. " f"{it.advice}")
+            for it in table.statuses().values()
+        ],
+    )
+    rows += part(
+        "FILES",
+        [
+            ("DIR/node-N", "the log files of node N"),
+            ("DIR/lock", "locked by the process that has the folder"),
+            ("DIR/setup", "what the folder was made with, which each later run is compared with"),
+        ],
+    )
     return "\n".join(rows) + "\n"
 
 
 def completions():
     """Returns a script of completions, for bash, and for zsh by its bashcompinit."""
-    rows = ["# Made by tools/launcher/pages.py from its table. For bash and zsh: source it, and type `qq` and a tab.",
-            '[ -z "${ZSH_VERSION-}" ] || { autoload -U bashcompinit && bashcompinit; }', "_qq() {",
-            '  local word="${COMP_WORDS[COMP_CWORD]}" before="${COMP_WORDS[COMP_CWORD - 1]}" words=""',
-            '  case "$before" in']
+    rows = [
+        "# Made by tools/launcher/pages.py from its table. For bash and zsh: source it, and type `qq` and a tab.",
+        '[ -z "${ZSH_VERSION-}" ] || { autoload -U bashcompinit && bashcompinit; }',
+        "_qq() {",
+        '  local word="${COMP_WORDS[COMP_CWORD]}" before="${COMP_WORDS[COMP_CWORD - 1]}" words=""',
+        '  case "$before" in',
+    ]
     for it in table.options().values():
         among = table.bounds(it)
         if it.value in ("NAME", "DIR"):
@@ -70,10 +94,15 @@ def completions():
             rows.append(f'    *:help) words="{" ".join(dict.fromkeys(helped))}" ;;')
         elif it.options:
             rows.append(f'    *:{name}) words="{" ".join(it.options)}" ;;')
-    rows += ["  esac", '  COMPREPLY=($(compgen -W "$words" -- "$word"))',
-             '  case "${COMP_WORDS[1]}" in check | queues | picture | storm)',
-             '    [ "$COMP_CWORD" -lt 2 ] || COMPREPLY+=($(compgen -f -- "$word")) ;;',
-             "  esac", "}", "complete -o filenames -F _qq qq ./qq"]
+    rows += [
+        "  esac",
+        '  COMPREPLY=($(compgen -W "$words" -- "$word"))',
+        '  case "${COMP_WORDS[1]}" in check | queues | picture | storm)',
+        '    [ "$COMP_CWORD" -lt 2 ] || COMPREPLY+=($(compgen -f -- "$word")) ;;',
+        "  esac",
+        "}",
+        "complete -o filenames -F _qq qq ./qq",
+    ]
     return "\n".join(rows) + "\n"
 
 

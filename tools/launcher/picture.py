@@ -1,7 +1,7 @@
 """./qq picture: draws a run of a script as a page for a browser, of one file and without a library.
 
-The independent model serves the lines and shows each step of it. What it prints has to be what the program prints, letter by
-letter: else nothing is drawn."""
+The independent model serves the lines and shows each step of it. What it prints has to be what the program prints,
+letter by letter: else nothing is drawn."""
 import json
 import os
 import subprocess
@@ -28,9 +28,15 @@ def said(message):
         what = f"entries {message.prev + 1} to {message.prev + count}" if count else "no entries"
         return "append", f"append of term {message.term}: {what} behind {message.prev}, committed {message.commit}"
     if isinstance(message, Appended):
-        return "appended", f"appended, term {message.term}: {'has' if message.ok else 'lacks; has at most'} {message.index}"
+        return (
+            "appended",
+            f"appended, term {message.term}: {'has' if message.ok else 'lacks; has at most'} {message.index}",
+        )
     if isinstance(message, Vote):
-        return "vote", f"asks for a vote in term {message.term}: its log ends at {message.last} of term {message.last_term}"
+        return (
+            "vote",
+            f"asks for a vote in term {message.term}: its log ends at {message.last} of term {message.last_term}",
+        )
     assert isinstance(message, Voted)
     return "voted", f"{'gives' if message.granted else 'refuses'} its vote in term {message.term}"
 
@@ -85,7 +91,7 @@ class Recorder(Cluster):
     def send(self, place, message):
         kind, what = said(message)
         self.sent += 1
-        self.held.append(message)     # so that no later message has its identity
+        self.held.append(message)  # so that no later message has its identity
         self.on_way.setdefault((place, id(message)), []).append(self.sent)
         self.event("send", queue=place, node=message.sender, to=message.to, id=self.sent, what=kind, text=what)
 
@@ -127,8 +133,11 @@ class Recorder(Cluster):
             return
         place = self.reader.names.index(found[2]) if found[2] else 0
         wanted = int(found[1] or 1), int(found[3])
-        row = next(index for index, (entry, told) in enumerate(self.groups[place].rows, 1)
-                   if told.gate == "fresh" and (entry.command.session, entry.command.seq) == wanted)
+        row = next(
+            index
+            for index, (entry, told) in enumerate(self.groups[place].rows, 1)
+            if told.gate == "fresh" and (entry.command.session, entry.command.seq) == wanted
+        )
         self.confirms.append({"line": self.at, "event": len(self.events) - 1, "queue": place, "row": row, "text": text})
 
     # Nodes
@@ -140,7 +149,9 @@ class Recorder(Cluster):
             waiting, kept = len(self.logs[node].waiting), sum(lane.op for lane in lanes)
             super().line_crash([node], left)
             kept = sum(lane.op for lane in lanes) - kept
-            self.event("crash", node=node, text=f"crash {image}: {kept} of {waiting} records that waited for a sync are left")
+            self.event(
+                "crash", node=node, text=f"crash {image}: {kept} of {waiting} records that waited for a sync are left"
+            )
 
     def restart(self, nodes):
         down = set(nodes) & self.down
@@ -155,9 +166,13 @@ class Recorder(Cluster):
         """Returns the messages of a queue that are ready, out or dead, by its audit."""
         found = [[it.arrival, it.count, utf8(it.body[:30]), "ready"] for it in queue.rows.ready()[:MOST_MESSAGES]]
         for consumer in queue.consumers:
-            found += [[it.arrival, it.count, utf8(it.body[:30]), f"with {consumer.session}/{consumer.tag}, delivery {it.id}"]
-                      for it in queue.rows.out(consumer)[:MOST_MESSAGES]]
-        return found + [[it.arrival, it.count, utf8(it.body[:30]), f"dead: {reason.replace('_', ' ')}"] for it, reason in queue.died]
+            found += [
+                [it.arrival, it.count, utf8(it.body[:30]), f"with {consumer.session}/{consumer.tag}, delivery {it.id}"]
+                for it in queue.rows.out(consumer)[:MOST_MESSAGES]
+            ]
+        return found + [
+            [it.arrival, it.count, utf8(it.body[:30]), f"dead: {reason.replace('_', ' ')}"] for it, reason in queue.died
+        ]
 
     def number(self, entry):
         """Returns the place of an entry in the list of all."""
@@ -170,14 +185,20 @@ class Recorder(Cluster):
 
     def keep_state(self):
         """Keeps what was printed, and what each member is where it has changed since the line before."""
-        self.prints.append("".join(self.output[self.shown:]))
+        self.prints.append("".join(self.output[self.shown :]))
         self.shown, changed = len(self.output), {}
         for place, group in enumerate(self.groups):
             for node, server in group.servers.items():
                 state = None
                 if server:
-                    state = [server.role, server.term, server.commit, server.durable(), len(server.changes),
-                             [self.number(entry) for entry in server.log]]
+                    state = [
+                        server.role,
+                        server.term,
+                        server.commit,
+                        server.durable(),
+                        len(server.changes),
+                        [self.number(entry) for entry in server.log],
+                    ]
                 if self.before.get((place, node), 0) != state:
                     changed[f"{place} {node}"] = self.before[place, node] = state
             for key, now in ((f"{place}", len(group.rows)), (f"messages {place}", self.messages(group.queue))):
@@ -194,14 +215,29 @@ def data_of(cluster, script, status):
     """Returns what the page shows."""
     printed = "".join(cluster.output)
     audits, _ = audits_of(printed.split("\n"))
-    queues = [{"name": group.name, "members": group.members,
-               "rows": [texts.row(index, *row) for index, row in enumerate(group.rows, 1)]} for group in cluster.groups]
+    queues = [
+        {
+            "name": group.name,
+            "members": group.members,
+            "rows": [texts.row(index, *row) for index, row in enumerate(group.rows, 1)],
+        }
+        for group in cluster.groups
+    ]
     end = utf8(cluster.output[-1]) if status else ""
     assert status or [len(audit.rows) for audit in audits] == [len(queue["rows"]) for queue in queues]
-    return {"nodes": list(cluster.nodes), "queues": queues, "script": [utf8(line) for line in script],
-            "events": [{key: utf8(it) if isinstance(it, str) else it for key, it in event.items()} for event in cluster.events],
-            "states": cluster.states, "entries": [entry[:2] for entry in cluster.entries], "end": end,
-            "prints": [utf8(text) for text in cluster.prints], "confirms": cluster.confirms}
+    return {
+        "nodes": list(cluster.nodes),
+        "queues": queues,
+        "script": [utf8(line) for line in script],
+        "events": [
+            {key: utf8(it) if isinstance(it, str) else it for key, it in event.items()} for event in cluster.events
+        ],
+        "states": cluster.states,
+        "entries": [entry[:2] for entry in cluster.entries],
+        "end": end,
+        "prints": [utf8(text) for text in cluster.prints],
+        "confirms": cluster.confirms,
+    }
 
 
 def run(script, options):
@@ -211,7 +247,9 @@ def run(script, options):
         for line in script:
             cluster.line(line)
             if len(cluster.events) > MOST_EVENTS:
-                raise SystemExit(f"qq: line {cluster.lines}: a picture has at most {MOST_EVENTS:,} events; draw a shorter script")
+                raise SystemExit(
+                    f"qq: line {cluster.lines}: a picture has at most {MOST_EVENTS:,} events; draw a shorter script"
+                )
     except Refused as refused:
         cluster.say(refused.args[0])
         return cluster, refused.args[1]
@@ -259,6 +297,9 @@ def picture(program, given):
     with open(PAGE, encoding="utf-8") as page:
         data = json.dumps(data_of(cluster, script, status), ensure_ascii=False, separators=(",", ":"))
         title = f"{os.path.basename(given[0])} over {options['nodes']} nodes"
-        sys.stdout.write(page.read().replace("/*TITLE*/", title.replace("<", "&lt;"))
-                         .replace("/*DATA*/", data.replace("<", "\\u003c")))
+        sys.stdout.write(
+            page.read()
+            .replace("/*TITLE*/", title.replace("<", "&lt;"))
+            .replace("/*DATA*/", data.replace("<", "\\u003c"))
+        )
     return 0

@@ -1,7 +1,8 @@
 """./qq queues: a table of queues, of what a run has printed or of a folder.
 
-Of a folder the program prints the audits, over a copy, as the next run would find them; the commands of the logs' entries
-are then carried out by the independent model, whose answers are compared with the audits'. So nothing is changed there."""
+Of a folder the program prints the audits, over a copy, as the next run would find them; the commands of the logs'
+entries are then carried out by the independent model, whose answers are compared with the audits'. So nothing is
+changed there."""
 import json
 import os
 import shutil
@@ -95,8 +96,17 @@ def of_printed(audit, printed):
     if ready and seen.consumers:
         notes.append("what was delivered and isn't printed here counts as ready")
     returned = max((it.count for it in messages), default=0)
-    return Queue(audit.queue, *leader_of(audit, printed), ready, unsettled, str(seen.dead), seen.confirmed, returned,
-                 messages, notes)
+    return Queue(
+        audit.queue,
+        *leader_of(audit, printed),
+        ready,
+        unsettled,
+        str(seen.dead),
+        seen.confirmed,
+        returned,
+        messages,
+        notes,
+    )
 
 
 def leader_of(audit, printed):
@@ -109,11 +119,20 @@ def leader_of(audit, printed):
 
 # Folders
 
+
 def export_of(setup):
     """Returns an export with the queues of a setup."""
-    return {"queues": [{"name": name, "durable": True, "auto_delete": False,
-                        "arguments": {"x-queue-type": "quorum", "x-quorum-initial-group-size": size, **arguments}}
-                       for (name, arguments), size in zip(setup.queues, setups.groups(setup))]}
+    return {
+        "queues": [
+            {
+                "name": name,
+                "durable": True,
+                "auto_delete": False,
+                "arguments": {"x-queue-type": "quorum", "x-quorum-initial-group-size": size, **arguments},
+            }
+            for (name, arguments), size in zip(setup.queues, setups.groups(setup))
+        ]
+    }
 
 
 def setup_of(root):
@@ -122,7 +141,9 @@ def setup_of(root):
     if made:
         return made
     numbers = {queue for node in logs.nodes_in(root) for queue in lanes_of(root, node)}
-    return setups.Setup(max(logs.nodes_in(root)), 3, 4_194_304, None, [(f"q{n}", {}) for n in range(1, max(numbers) + 1)])
+    return setups.Setup(
+        max(logs.nodes_in(root)), 3, 4_194_304, None, [(f"q{n}", {}) for n in range(1, max(numbers) + 1)]
+    )
 
 
 def lanes_of(root, node):
@@ -143,7 +164,9 @@ def run_over(program, room, setup, lines):
     """Returns what a run over a copy prints, which serves these lines and shows each queue."""
     lines = [*lines, *(f"show #{number}" for number in range(1, len(setup.queues) + 1))]
     words = [program, "script", "--root", room, "--nodes", str(setup.nodes), "--definitions", f"{room}/export.json"]
-    done = subprocess.run(words, input="".join(line + "\n" for line in lines).encode(), stdout=subprocess.PIPE, check=False)
+    done = subprocess.run(
+        words, input="".join(line + "\n" for line in lines).encode(), stdout=subprocess.PIPE, check=False
+    )
     output = done.stdout.decode("latin-1")
     if done.returncode:
         raise Unread(f"a run over this folder would end with status {done.returncode}: {output.strip()}")
@@ -171,23 +194,40 @@ def entries_of(room, setup, place, rows):
 def of_entries(audit, printed, entries, arguments):
     """Returns a queue as the model carries out its entries, whose answers are compared with the audit's."""
     queue, notes = LimitedQueue(arguments), []
-    wrong = sum(texts.row(index, entry, queue.step(entry.command)) != texts_of(row)
-                for index, (entry, row) in enumerate(zip(entries, audit.rows), 1))
+    wrong = sum(
+        texts.row(index, entry, queue.step(entry.command)) != texts_of(row)
+        for index, (entry, row) in enumerate(zip(entries, audit.rows), 1)
+    )
     if wrong or len(entries) != len(audit.rows):
-        notes.append(f"the model answers {wrong or 'not all'} of {len(audit.rows)} entries as the audit does not: the counts "
-                     "aren't sure")
-    unsettled, messages = {}, [Message(row.arrival, row.count, len(row.body), row.body, "ready") for row in queue.rows.ready()]
+        notes.append(
+            f"the model answers {wrong or 'not all'} of {len(audit.rows)} entries as the audit does not: the counts "
+            "aren't sure"
+        )
+    unsettled, messages = {}, [
+        Message(row.arrival, row.count, len(row.body), row.body, "ready") for row in queue.rows.ready()
+    ]
     for it in queue.consumers:
         out = queue.rows.out(it)
         if out:
             unsettled[it.session, it.tag] = len(out)
-        messages += [Message(row.arrival, row.count, len(row.body), row.body, f"with {it.session}/{it.tag} as {row.id}")
-                     for row in out]
+        messages += [
+            Message(row.arrival, row.count, len(row.body), row.body, f"with {it.session}/{it.tag} as {row.id}")
+            for row in out
+        ]
     kept = [Message(row.arrival, row.count, len(row.body), row.body, "dead") for row in queue.dead]
     dead = f"{len(queue.died)} ({len(kept)} kept)" if kept else str(len(queue.died))
     returned = max((it.count for it in messages), default=0)
-    return Queue(audit.queue, *leader_of(audit, printed), queue.ready_count(), unsettled, dead, queue.arrivals, returned,
-                 messages + kept, notes)
+    return Queue(
+        audit.queue,
+        *leader_of(audit, printed),
+        queue.ready_count(),
+        unsettled,
+        dead,
+        queue.arrivals,
+        returned,
+        messages + kept,
+        notes,
+    )
 
 
 def texts_of(row):
@@ -216,8 +256,10 @@ def of_root(program, root):
         lines = elections(room, setup, opened)
         if lines:
             printed = run_over(program, room, setup, lines)
-        found = [of_entries(audit, printed, entries_of(room, setup, place, len(audit.rows)), setup.queues[place][1])
-                 for place, audit in enumerate(printed.audits)]
+        found = [
+            of_entries(audit, printed, entries_of(room, setup, place, len(audit.rows)), setup.queues[place][1])
+            for place, audit in enumerate(printed.audits)
+        ]
     return [led(queue, audit, opened) for queue, audit in zip(found, opened.audits)]
 
 
@@ -225,12 +267,15 @@ def led(queue, audit, opened):
     """Returns a queue with the leader that the opening gave it."""
     leader, term = leader_of(audit, opened)
     if leader == "none":
-        queue.notes.append(f"no leader when it is opened: its first member hasn't the longest log. `tick N {queue.name}` of "
-                           "another member and `pump` give it one; the counts are those after that")
+        queue.notes.append(
+            f"no leader when it is opened: its first member hasn't the longest log. `tick N {queue.name}` of "
+            "another member and `pump` give it one; the counts are those after that"
+        )
     return queue._replace(leader=leader, term=term)
 
 
 # What is shown
+
 
 def text(body):
     if body is UNKNOWN:
@@ -247,15 +292,28 @@ def name_of(queue):
 def cells(queue):
     each = ", ".join(f"{session}/{tag}: {count}" for (session, tag), count in sorted(queue.unsettled.items()))
     unsettled = f"{sum(queue.unsettled.values())}" + (f" ({each})" if each else "")
-    return [name_of(queue), queue.leader, queue.term, queue.ready, unsettled, queue.dead, queue.confirmed, queue.returned]
+    return [
+        name_of(queue),
+        queue.leader,
+        queue.term,
+        queue.ready,
+        unsettled,
+        queue.dead,
+        queue.confirmed,
+        queue.returned,
+    ]
 
 
 def show(queues, with_messages):
     rows = [HEADS, *(cells(queue) for queue in queues)]
     widths = [max(len(str(row[at])) for row in rows) for at in range(len(HEADS))]
     for row in rows:
-        print("  ".join(str(cell).rjust(width) if at in (2, 3, 6, 7) else str(cell).ljust(width)
-                        for at, (cell, width) in enumerate(zip(row, widths))).rstrip())
+        print(
+            "  ".join(
+                str(cell).rjust(width) if at in (2, 3, 6, 7) else str(cell).ljust(width)
+                for at, (cell, width) in enumerate(zip(row, widths))
+            ).rstrip()
+        )
     for queue in queues:
         if with_messages and queue.messages:
             print(f"\n{name_of(queue)}: arrival, bytes, where, body")

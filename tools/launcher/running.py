@@ -12,7 +12,7 @@ import threading
 import time
 
 LIBC = ctypes.CDLL(None, use_errno=True)
-END_WITH_PARENT = 1        # PR_SET_PDEATHSIG
+END_WITH_PARENT = 1  # PR_SET_PDEATHSIG
 KEPT = 1 << 20
 CHUNK = 1 << 16
 QUIET_SECONDS = 2
@@ -54,13 +54,13 @@ class FileInput:
         return self.all
 
     def tail(self):
-        """Returns the last bytes that the program may have read, from the beginning of a line on, and the number of lines
-        before them."""
+        """Returns the last bytes that the program may have read, from the beginning of a line on, and the number of
+            lines before them."""
         end = os.lseek(0, 0, os.SEEK_CUR)
         begin = max(self.start, end - KEPT)
         text = b"".join(iter_pieces(begin, end))
         if begin > self.start:
-            text = text[text.find(b"\n") + 1:]
+            text = text[text.find(b"\n") + 1 :]
         before = FileInput.__new__(FileInput)
         before.counted, before.place = 0, self.start
         return before.lines_until(end - len(text)), text

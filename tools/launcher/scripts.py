@@ -7,13 +7,22 @@ import words
 from lines import Fault, FORMS, LONGEST_BODY, LONGEST_LINE, ORDER, Reader, is_utf8
 from takers import VERDICTS
 
-MARK = "\u00ef\u00bb\u00bf"     # a byte order mark, a letter for each byte
+MARK = "\u00ef\u00bb\u00bf"  # a byte order mark, a letter for each byte
 # What a word of the model's forms is, where the word of docs/SCRIPT.md's form doesn't say it.
 RANGES = {
-    "S": "a session, 1 to 4,294,967,295", "TAG": "a consumer's tag, 1 to 4,294,967,295", "PREFETCH": "0 to 65,535",
-    "COUNT": "a number, 0 to 4,294,967,295", "TAKER": "a taker's number", "IDS": "1 to 4,096 numbers from 1 on, with "
-    "commas between them", "N": "a node", "NODES": "a node, or `all`", "Q": "a queue, by its name or as `#N`",
-    "DRAIN": "`keep` or `drain`", "IMAGE": "`none`, `whole`, `cut K` or `junk HEX`", "KEY": "at most 255 bytes"}
+    "S": "a session, 1 to 4,294,967,295",
+    "TAG": "a consumer's tag, 1 to 4,294,967,295",
+    "PREFETCH": "0 to 65,535",
+    "COUNT": "a number, 0 to 4,294,967,295",
+    "TAKER": "a taker's number",
+    "IDS": "1 to 4,096 numbers from 1 on, with " "commas between them",
+    "N": "a node",
+    "NODES": "a node, or `all`",
+    "Q": "a queue, by its name or as `#N`",
+    "DRAIN": "`keep` or `drain`",
+    "IMAGE": "`none`, `whole`, `cut K` or `junk HEX`",
+    "KEY": "at most 255 bytes",
+}
 
 
 def shown(line):
@@ -69,7 +78,9 @@ class Script:
         if near:
             return near
         word, _, rest = line.partition(" ")
-        return self.unknown(line, word) if word not in FORMS or fault == "unknown" else self.words(fault, word, line, rest)
+        return (
+            self.unknown(line, word) if word not in FORMS or fault == "unknown" else self.words(fault, word, line, rest)
+        )
 
     def near_miss(self, line):
         """Names what stands in a line that would be one without it."""
@@ -77,11 +88,13 @@ class Script:
             return "it begins with a byte order mark: write the file as UTF-8 without one"
         if line.lstrip(" \t").startswith("#"):
             return "a comment begins with `;`, and not with `#`"
-        for made, why in ((line.rstrip(" \t"), "a blank or a tab stands at its end"),
-                          (line.lstrip(" \t"), "a blank or a tab stands at its beginning"),
-                          (line.replace("\t", " "), "a tab stands in it: one blank parts two words"),
-                          (" ".join(line.split()), "more than one blank stands between two of its words"),
-                          (line.rstrip("; "), "a `;` ends no line")):
+        for made, why in (
+            (line.rstrip(" \t"), "a blank or a tab stands at its end"),
+            (line.lstrip(" \t"), "a blank or a tab stands at its beginning"),
+            (line.replace("\t", " "), "a tab stands in it: one blank parts two words"),
+            (" ".join(line.split()), "more than one blank stands between two of its words"),
+            (line.rstrip("; "), "a `;` ends no line"),
+        ):
             if made != line and made and self.is_read(made):
                 return f"{why}; `{shown(made)}` is a line"
         return None
@@ -96,8 +109,9 @@ class Script:
         if not is_utf8(line):
             return "it isn't UTF-8; `publish` alone may have a body of any bytes"
         found = [it for it in difflib.get_close_matches(word.lower(), FORMS, 1, 0.6)]
-        return f"no line begins with `{shown(word)}`" + (f"; is `{found[0]}` meant?" if found else
-                                                         "; `./qq help lines` names all")
+        return f"no line begins with `{shown(word)}`" + (
+            f"; is `{found[0]}` meant?" if found else "; `./qq help lines` names all"
+        )
 
     def words(self, fault, word, line, rest):
         """What is wrong with the words behind the first one."""

@@ -1,7 +1,7 @@
 """What a folder was made with, in its file `setup`: its nodes, its log files' size, and each queue with its number.
 
-The file is made at a folder's first run and compared at each later one. A queue is a number in the logs, so another list
-of queues would hand the messages of one out of another; and fewer nodes would go on without the others."""
+The file is made at a folder's first run and compared at each later one. A queue is a number in the logs, so another
+list of queues would hand the messages of one out of another; and fewer nodes would go on without the others."""
 import json
 import os
 from collections import namedtuple
@@ -52,11 +52,17 @@ def names(setup):
     return [name for name, _ in setup.queues]
 
 
+def to_json(value):
+    return json.dumps(value, sort_keys=True, ensure_ascii=False)
+
+
 def text_of(setup):
     rows = [f"nodes {setup.nodes}", f"log-bytes {setup.log_bytes}"]
     rows += [f"group {setup.group}"] if setup.definitions is None else [f"definitions {json.dumps(setup.definitions)}"]
-    rows += [f"queue {number} {json.dumps(name, ensure_ascii=False)} {json.dumps(arguments, sort_keys=True, ensure_ascii=False)}"
-             for number, (name, arguments) in enumerate(setup.queues, 1)]
+    rows += [
+        f"queue {number} {to_json(name)} {to_json(arguments)}"
+        for number, (name, arguments) in enumerate(setup.queues, 1)
+    ]
     return HEAD + "".join(row + "\n" for row in rows)
 
 
@@ -92,7 +98,8 @@ def write(root, setup):
 
 
 def guess(root, now):
-    """Returns what the files of a folder without a setup show: as many nodes as have files, and the other words as now."""
+    """Returns what the files of a folder without a setup show: as many nodes as have files, and the other words as
+        now."""
     return now._replace(nodes=max(logs.nodes_in(root)))
 
 
@@ -136,9 +143,11 @@ def words_of(setup):
 def why_not(made, now):
     """Says what a run with other words would do."""
     if made.nodes != now.nodes:
-        return ("fewer or more nodes go on without what the others have, and a later run with all of them is refused as "
-                "lost, status 9")
-    if names(made) != names(now)[:len(made.queues)]:
+        return (
+            "fewer or more nodes go on without what the others have, and a later run with all of them is refused as "
+            "lost, status 9"
+        )
+    if names(made) != names(now)[: len(made.queues)]:
         return "queues are numbers in a folder: the messages of one queue would be handed out of another"
     if len(now.queues) > len(made.queues):
         return "the queues that are there keep their numbers, so the further ones do them no harm"
@@ -155,18 +164,24 @@ def taken(root, setup):
         return []
     sessions = sorted({session for of in found.values() for session in of})
     if not sessions:
-        return [] if is_all else ["some of the sessions' numbers are taken there: its logs are long, and weren't read whole"]
+        return (
+            []
+            if is_all
+            else ["some of the sessions' numbers are taken there: its logs are long, and weren't read whole"]
+        )
     told = ", ".join(map(str, sessions[:12])) + (f" and {len(sessions) - 12} more" if len(sessions) > 12 else "")
     free = next(number for number in range(2, 2**32) if number not in sessions)
     first = names(setup)[0] if names(setup) else "q1"
-    return [f"sessions whose numbers are taken there: {told}" + ("" if is_all else ", and others maybe"),
-            "  a number that was used is answered again as it was, and nothing is stored: `publish` and `get` are session "
-            f"1's; use a session of your own, as `send {free} - {first} b` and `get {free} {first}`"]
+    return [
+        f"sessions whose numbers are taken there: {told}" + ("" if is_all else ", and others maybe"),
+        "  a number that was used is answered again as it was, and nothing is stored: `publish` and `get` are session "
+        f"1's; use a session of your own, as `send {free} - {first} b` and `get {free} {first}`",
+    ]
 
 
 def compare(root, asked, is_forced):
-    """Compares a folder with what the words ask for, and writes its setup where it has none. Returns whether the run may
-    start, and what is to be said."""
+    """Compares a folder with what the words ask for, and writes its setup where it has none. Returns whether the run
+        may start, and what is to be said."""
     now = of_words(asked)
     if not root or now is None or os.path.exists(root) and not os.path.isdir(root):
         return True, []
@@ -174,15 +189,28 @@ def compare(root, asked, is_forced):
         write(root, now)
         return True, []
     made = read(root)
-    told = [] if made else [f"{root} has files, and no `{NAME}` that says with which words: its nodes alone were compared"]
+    told = (
+        [] if made else [f"{root} has files, and no `{NAME}` that says with which words: its nodes alone were compared"]
+    )
     made = made or guess(root, now)
     other = differences(made, now)
     if other and not is_forced:
-        return False, [*told, f"not started: {root} was made with other words or queues", *(f"  {it}" for it in other),
-                       f"  {why_not(made, now)}", f"  it was made with: {words_of(made)}",
-                       "  --force starts it all the same, and makes the words of now those of the folder"]
-    told += [f"{root} goes on with other words or queues than it was made with, since --force says so",
-             *(f"  {it}" for it in other)] if other else []
+        return False, [
+            *told,
+            f"not started: {root} was made with other words or queues",
+            *(f"  {it}" for it in other),
+            f"  {why_not(made, now)}",
+            f"  it was made with: {words_of(made)}",
+            "  --force starts it all the same, and makes the words of now those of the folder",
+        ]
+    told += (
+        [
+            f"{root} goes on with other words or queues than it was made with, since --force says so",
+            *(f"  {it}" for it in other),
+        ]
+        if other
+        else []
+    )
     if told:
         write(root, now)
     return True, [*told, *taken(root, now)]

@@ -1,8 +1,8 @@
-"""./qq storm: publishes to queues in a folder, ends the program by a signal at random moments and opens it again. At the end
-each message that was confirmed has to stand in an audit, once.
+"""./qq storm: publishes to queues in a folder, ends the program by a signal at random moments and opens it again. At
+the end each message that was confirmed has to stand in an audit, once.
 
-Each round has a session of its own. It begins with all that the session before has sent, again and under the same numbers,
-as a client does that doesn't know what became of its last messages; then it sends messages of its own."""
+Each round has a session of its own. It begins with all that the session before has sent, again and under the same
+numbers, as a client does that doesn't know what became of its last messages; then it sends messages of its own."""
 import os
 import random
 import select
@@ -29,8 +29,9 @@ class Round:
     def __init__(self, program, words_of, session, before):
         self.session, self.before, self.sent = session, before, 0
         self.text = b""
-        self.child = subprocess.Popen([program, *words_of], stdin=subprocess.PIPE, stdout=subprocess.PIPE,
-                                      preexec_fn=running.end_with_parent)
+        self.child = subprocess.Popen(
+            [program, *words_of], stdin=subprocess.PIPE, stdout=subprocess.PIPE, preexec_fn=running.end_with_parent
+        )
 
     def line(self, session, number):
         return f"send {session} - q{number % QUEUES + 1} m{session}.{number}\n"
@@ -72,11 +73,12 @@ class Round:
             self.child.stdin.close()
         except OSError:
             pass
-        return self.text[:self.text.rfind(b"\n") + 1].decode("latin-1")
+        return self.text[: self.text.rfind(b"\n") + 1].decode("latin-1")
 
 
 def count(printed, output):
-    """Returns how many messages were confirmed, how many of them stand in an audit once, in none, and more than once."""
+    """Returns how many messages were confirmed, how many of them stand in an audit once, in none, and more than
+        once."""
     confirmed = {(it[1] or "1", it[2] or "q1", it[3]) for it in map(CONFIRMED.fullmatch, printed.split("\n")) if it}
     rows, queue = {}, None
     for line in output.split("\n"):
@@ -96,8 +98,11 @@ def folder_fault(folder):
 
 
 def storm(program, given):
-    fault = "its form is ./qq storm SECONDS DIR" if len(given) != 2 or not given[0].isdigit() or given[0] == "0" else \
-        folder_fault(given[1])
+    fault = (
+        "its form is ./qq storm SECONDS DIR"
+        if len(given) != 2 or not given[0].isdigit() or given[0] == "0"
+        else folder_fault(given[1])
+    )
     if fault:
         print(f"qq: {fault}", file=sys.stderr)
         return 2
@@ -132,10 +137,15 @@ def report(program, words_of, printed, sent, ends):
     output = done.stdout.decode("latin-1")
     confirmed, once, lost, twice = count(printed, output)
     _, wrong = summary("".join(line for line in printed.splitlines(True) if CONFIRMED.fullmatch(line[:-1])) + output)
-    print(f"ended {ends} times with kill -9, sent {sent}, confirmed {confirmed}, in an audit once {once}, lost {lost}, "
-          f"twice {twice}")
+    print(
+        f"ended {ends} times with kill -9, sent {sent}, confirmed {confirmed}, in an audit once {once}, lost {lost}, "
+        f"twice {twice}"
+    )
     if done.returncode or wrong or lost or twice or once != confirmed or not confirmed:
-        print(f"qq: the last opening ended with status {done.returncode}; {len(wrong)} confirmed messages haven't one row",
-              file=sys.stderr)
+        print(
+            f"qq: the last opening ended with status {done.returncode}; of {len(wrong)} confirmed messages there isn't "
+            "one row",
+            file=sys.stderr,
+        )
         return 1
     return 0

@@ -17,20 +17,36 @@ Command = namedtuple("Command", "form meaning options")
 PROGRAM = ("script", "drill", "dump")
 CLUSTER = ("--nodes", "--group", "--queues", "--definitions", "--ignore-policies")
 COMMANDS = {
-    "script": Command("script [OPTION..] < FILE", "runs the lines of a script over a cluster of nodes and queues, and "
-                      "prints each queue's audit at the end", (*CLUSTER, "--root", "--log-bytes", "--force")),
-    "drill": Command("drill N [--nodes K] [--check]", "runs some 4,000 lines of clients and crashes that are drawn from "
-                     "the number N, and prints counts and a digest", ("--nodes", "--check")),
-    "dump": Command("dump --root DIR --node N", "prints what the log files of a node's folder hold",
-                    ("--root", "--node")),
-    "check": Command("check FILE [OPTION..]", "reads a script or an export, names each fault in it, and runs nothing",
-                     CLUSTER),
-    "queues": Command("queues [--messages] --root DIR | FILE", "shows a table of the queues of a folder, or of what a "
-                      "run has printed", ("--root", "--messages")),
-    "picture": Command("picture SCRIPT [OPTION..] > FILE.html", "runs a script and draws it as a page for a browser",
-                       CLUSTER[:3]),
-    "storm": Command("storm SECONDS DIR", "publishes, ends the program with kill -9 at random moments, opens it again, "
-                     "and counts what was lost", ()),
+    "script": Command(
+        "script [OPTION..] < FILE",
+        "runs the lines of a script over a cluster of nodes and queues, and " "prints each queue's audit at the end",
+        (*CLUSTER, "--root", "--log-bytes", "--force"),
+    ),
+    "drill": Command(
+        "drill N [--nodes K] [--check]",
+        "runs some 4,000 lines of clients and crashes that are drawn from "
+        "the number N, and prints counts and a digest",
+        ("--nodes", "--check"),
+    ),
+    "dump": Command(
+        "dump --root DIR --node N", "prints what the log files of a node's folder hold", ("--root", "--node")
+    ),
+    "check": Command(
+        "check FILE [OPTION..]", "reads a script or an export, names each fault in it, and runs nothing", CLUSTER
+    ),
+    "queues": Command(
+        "queues [--messages] --root DIR | FILE",
+        "shows a table of the queues of a folder, or of what a " "run has printed",
+        ("--root", "--messages"),
+    ),
+    "picture": Command(
+        "picture SCRIPT [OPTION..] > FILE.html", "runs a script and draws it as a page for a browser", CLUSTER[:3]
+    ),
+    "storm": Command(
+        "storm SECONDS DIR",
+        "publishes, ends the program with kill -9 at random moments, opens it again, " "and counts what was lost",
+        (),
+    ),
     "help": Command("help [WORD | LINE]", "explains a command, an option, a line, a printed text or a status", ()),
     "version": Command("version", "says which commit and kit this is, and whether the program is proved", ()),
     "prove": Command("prove", "proves the program", ()),
@@ -49,16 +65,16 @@ ADVICE = {
     0: "Nothing is to be done.",
     2: "`./qq help` shows the commands, and `./qq help script` the options.",
     3: "`./qq check FILE` names all that is refused in an export. Change a copy of it; docs/DEFINITIONS.md says what "
-       "becomes of each field.",
-    4: "The lines before it were served. The audits come at the end of a script alone; `./qq check FILE` reads all lines "
-       "before anything runs.",
+    "becomes of each field.",
+    4: "The lines before it were served. The audits come at the end of a script alone; `./qq check FILE` reads all "
+    "lines before anything runs.",
     5: "Look whether the file is there, and whether you may read it.",
     6: "What was confirmed before stands. Look whether the disk is full, or what read the output has ended.",
     7: "Look who has the folder, whether it may be written to, and whether there is room on the disk.",
-    8: "Keep a copy of the whole folder first. Then put the file back as it was. A node whose folder is moved away begins "
-       "anew: the opening may be refused as lost, and confirmed messages may be lost with it.",
-    9: "Keep a copy of the whole folder first. Then put the right folders back, and give the words with which it was made. "
-       "A folder that is gone for good can't be replaced by an empty one yet.",
+    8: "Keep a copy of the whole folder first. Then put the file back as it was. A node whose folder is moved away "
+    "begins anew: the opening may be refused as lost, and confirmed messages may be lost with it.",
+    9: "Keep a copy of the whole folder first. Then put the right folders back, and give the words with which it was "
+    "made. A folder that is gone for good can't be replaced by an empty one yet.",
     11: "A body has at most 65,536 bytes, a script 10,000,000 lines, an export 1,024 queues.",
     12: "Give it more memory, or fewer messages: a run keeps all that it has served.",
     20: "The count has no room above. Begin with a new folder.",
@@ -138,8 +154,10 @@ def options():
 
 @functools.cache
 def statuses():
-    return {int(number): Status(int(number), plain(comes), printed, ADVICE.get(int(number), ""))
-            for number, comes, printed in rows("status", "comes", "printed last")}
+    return {
+        int(number): Status(int(number), plain(comes), printed, ADVICE.get(int(number), ""))
+        for number, comes, printed in rows("status", "comes", "printed last")
+    }
 
 
 def bounds(option):

@@ -66,8 +66,10 @@ def read_option(command, word, rest, values):
             raise Wrong(f"`{name}` lacks its value: {wanted}")
         value = rest.pop(0)
         if value.startswith("-"):
-            raise Wrong(f"`{name}` lacks its value, since `{value}` begins with a hyphen: {wanted}"
-                        + ("" if table.bounds(option) else f"; `{name}={value}` takes it as a value"))
+            raise Wrong(
+                f"`{name}` lacks its value, since `{value}` begins with a hyphen: {wanted}"
+                + ("" if table.bounds(option) else f"; `{name}={value}` takes it as a value")
+            )
     among = table.bounds(option)
     fault = among and table.number_fault(value, *among)
     if fault:
@@ -94,8 +96,11 @@ def read(words):
     rest, values, numbers = list(words[1:]), {}, []
     for word in rest:
         if word in BARRED:
-            raise Wrong(f"{BARRED[word]} is no word of a command; an unset variable leaves one" if not word
-                        else f"{BARRED[word]} is no word of a command")
+            raise Wrong(
+                f"{BARRED[word]} is no word of a command; an unset variable leaves one"
+                if not word
+                else f"{BARRED[word]} is no word of a command"
+            )
     while rest:
         word = rest.pop(0)
         if word.startswith("--"):
@@ -122,8 +127,10 @@ def whole(asked):
                 raise Wrong(f"`{name} {table.options()[name].value}` is missing: `dump --root DIR --node N`")
     for name in ("--queues", "--group"):
         if "--definitions" in values and name in values:
-            raise Wrong(f"`{name}` stands beside `--definitions`: the export says itself which queues there are, and "
-                        "over how many nodes")
+            raise Wrong(
+                f"`{name}` stands beside `--definitions`: the export says itself which queues there are, and "
+                "over how many nodes"
+            )
     return asked
 
 
