@@ -60,7 +60,7 @@ class LimitedQueue(Queue):
             self.dead.append(row)
 
     def give_back(self, row):
-        """With a delivery limit a returned message is served before others, and without one behind them."""
+        """With a delivery limit a returned message is served before others, and without one after them."""
         row.count += 1
         if self.limit != UNLIMITED and row.count > self.limit:
             self.die(row, "delivery_limit")

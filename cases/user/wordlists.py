@@ -11,13 +11,12 @@ import words
 
 def lists():
     """Yields each list of words, and whether it is a command."""
-    for folder in ("cases", "examples"):
-        for name in sorted(glob.glob(f"{sys.argv[1]}/{folder}/words/*.txt")):
-            with open(name, encoding="utf-8") as file:
-                rows = file.read().split("\n")
-            for row, below in zip(rows, rows[1:]):
-                if below.startswith("  ") and not row.startswith(("  ", "#")):
-                    yield row, below.strip() != "usage"
+    for name in sorted(glob.glob(f"{sys.argv[1]}/cases/words/*.txt")):
+        with open(name, encoding="utf-8") as file:
+            rows = file.read().split("\n")
+        for row, below in zip(rows, rows[1:]):
+            if below.startswith("  ") and not row.startswith(("  ", "#")):
+                yield row, below.strip() != "usage"
 
 
 def main():

@@ -1,4 +1,5 @@
-"""Writes the man page and the completions from the table: pages.py makes docs/qq.1 and docs/qq.bash."""
+"""Makes the man page and the completions from the table: pages.py writes docs/qq.1 and docs/qq.bash, and
+pages.py --check says which of them isn't what the table gives."""
 import re
 import sys
 
@@ -106,11 +107,24 @@ def completions():
     return "\n".join(rows) + "\n"
 
 
-def main():
-    for name, made in FILES.items():
-        with open(f"{TOP}/{name}", "w", encoding="utf-8") as file:
-            file.write(globals()[made]())
+def is_made(name, made):
+    with open(f"{TOP}/{name}", encoding="utf-8") as file:
+        return file.read() == made
+
+
+def main(words):
+    """Writes the files, or compares them. The status is 1 where one differs."""
+    status = 0
+    for name, part_of in FILES.items():
+        made = globals()[part_of]()
+        if words != ["--check"]:
+            with open(f"{TOP}/{name}", "w", encoding="utf-8") as file:
+                file.write(made)
+        elif not is_made(name, made):
+            print(f"{name} isn't what the table gives: tools/launcher/pages.py makes it")
+            status = 1
+    return status
 
 
 if __name__ == "__main__":
-    sys.exit(main())
+    sys.exit(main(sys.argv[1:]))

@@ -26,7 +26,7 @@ def said(message):
     if isinstance(message, Append):
         count = len(message.entries)
         what = f"entries {message.prev + 1} to {message.prev + count}" if count else "no entries"
-        return "append", f"append of term {message.term}: {what} behind {message.prev}, committed {message.commit}"
+        return "append", f"append of term {message.term}: {what} after {message.prev}, committed {message.commit}"
     if isinstance(message, Appended):
         return (
             "appended",

@@ -114,14 +114,14 @@ class Script:
         )
 
     def words(self, fault, word, line, rest):
-        """What is wrong with the words behind the first one."""
+        """What is wrong with the words after the first one."""
         forms = FORMS[word].split()
         given = rest.split(" ", len(forms) - 1) if forms and " " in line else [rest] * (" " in line)
         form = " or ".join(f"`{it.form}`" for it in table.lines().get(word, ()))
         if len(given) != len(forms) or forms and forms[-1] not in ("BODY", "IMAGE") and " " in given[-1]:
             count = len(rest.split(" ")) if " " in line else 0
-            what = f"{table.count(count, 'word')} behind its first"
-            what = "no body, which may be empty behind a blank" if forms == ["BODY"] else what
+            what = f"{table.count(count, 'word')} after its first"
+            what = "no body, which may be empty after a blank" if forms == ["BODY"] else what
             return f"it has {what}; its form is {form}"
         for kind, each in zip(forms, given):
             try:

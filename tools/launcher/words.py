@@ -1,4 +1,4 @@
-"""The words behind the program's name: what they ask for, or which of them is no command, and why."""
+"""The words after the program's name: what they ask for, or which of them is no command, and why."""
 import difflib
 import os
 from collections import namedtuple
