@@ -122,10 +122,8 @@ def help(_program, given):
         print("\n\n".join(found))
         return 0
     known = [*table.COMMANDS, *table.options(), *table.lines(), *TOPICS]
-    print(
-        f"qq: there is no help on `{given[0]}`{words.near(given[0], known)}; ./qq help names the commands",
-        file=sys.stderr,
-    )
+    near = words.near(given[0], known) or ";"
+    print(f"qq: there is no help on `{given[0]}`{near} ./qq help names the commands", file=sys.stderr)
     return 2
 
 

@@ -31,7 +31,9 @@ def run(program, given):
     asked_words, own = words.own(given)
     asked = explain.asked_of(asked_words)
     if asked and asked.command == "script":
-        may, told = setups.compare(asked.values.get("--root"), asked, "--force" in own)
+        source = running.input_of() if "--root" in asked.values else None
+        script = source.head() if isinstance(source, running.FileInput) else b""
+        may, told = setups.compare(asked.values.get("--root"), asked, "--force" in own, script)
         tell(told)
         if not may:
             return 1

@@ -46,6 +46,10 @@ class FileInput:
     def read(self):
         return self.lines_until(os.lseek(0, 0, os.SEEK_CUR))
 
+    def head(self):
+        """Returns the first bytes that the program will read."""
+        return os.pread(0, KEPT, self.start)
+
     def total(self):
         if self.all is None:
             other = FileInput.__new__(FileInput)
@@ -162,7 +166,8 @@ def run(words, reads_input=True):
     given = input_of() if reads_input else None
     child = subprocess.Popen(words, stdin=given.hand_over() if given else None, preexec_fn=end_with_parent)
     for name in (signal.SIGTERM, signal.SIGHUP):
-        signal.signal(name, lambda number, _: child.send_signal(number))
+        if signal.getsignal(name) != signal.SIG_IGN:
+            signal.signal(name, lambda number, _: child.send_signal(number))
     signal.signal(signal.SIGINT, signal.SIG_IGN)
     if isinstance(given, PassedInput):
         threading.Thread(target=given.pass_on, args=(child.stdin,), daemon=True).start()

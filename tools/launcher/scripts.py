@@ -4,7 +4,7 @@ from itertools import islice
 
 import table
 import words
-from lines import Fault, FORMS, LONGEST_BODY, LONGEST_LINE, ORDER, Reader, is_utf8
+from lines import CLIENT_LINES, Fault, FORMS, LONGEST_BODY, LONGEST_LINE, ORDER, Reader, is_utf8, lines_of
 from takers import VERDICTS
 
 MARK = "\u00ef\u00bb\u00bf"  # a byte order mark, a letter for each byte
@@ -154,6 +154,24 @@ class Script:
 
 def len_of(nodes):
     return "node 1" if nodes == 1 else f"nodes 1 to {nodes}"
+
+
+def session_of(line):
+    """Returns the session that a line gives a new command, or None."""
+    word, _, rest = line.partition(" ")
+    if word == "publish" or line == "get":
+        return 1
+    number = rest.partition(" ")[0]
+    is_new = word in CLIENT_LINES and word not in ("resend", "end")
+    return int(number) if is_new and number.isascii() and number.isdigit() else None
+
+
+def first_of(sessions, text):
+    """Returns the number of the first line that gives a command of one of these sessions, the line and the session."""
+    for number, line in enumerate(lines_of(text.decode("latin-1")), 1):
+        if session_of(line) in sessions:
+            return number, line, session_of(line)
+    return None
 
 
 def first_fault(script, lines, before=0):

@@ -8,6 +8,7 @@ from collections import namedtuple
 
 import exports
 import logs
+import scripts
 import words
 
 NAME = "setup"
@@ -15,6 +16,7 @@ HEAD = "; What this folder was made with. ./qq compares it with the words of eac
 # The queues are pairs of a name and arguments in the order of their numbers, from 1.
 Setup = namedtuple("Setup", "nodes group log_bytes definitions queues")
 READ_SECONDS = 0.5
+NOT_ALL_READ = "some sessions' numbers are taken there: its logs are long, and weren't read whole"
 
 
 def of_words(asked):
@@ -156,30 +158,33 @@ def why_not(made, now):
     return "another size of the log files does the messages no harm"
 
 
-def taken(root, setup):
-    """Says which sessions' numbers are taken in a folder."""
+def taken(root, setup, script):
+    """Says which sessions' numbers are taken in a folder, and which line of a script is the first of such a session."""
     try:
         found, is_all = logs.sessions_in(root, READ_SECONDS)
     except OSError:
         return []
     sessions = sorted({session for of in found.values() for session in of})
     if not sessions:
-        return (
-            []
-            if is_all
-            else ["some of the sessions' numbers are taken there: its logs are long, and weren't read whole"]
-        )
+        return [] if is_all else [NOT_ALL_READ]
     told = ", ".join(map(str, sessions[:12])) + (f" and {len(sessions) - 12} more" if len(sessions) > 12 else "")
     free = next(number for number in range(2, 2**32) if number not in sessions)
-    first = names(setup)[0] if names(setup) else "q1"
-    return [
-        f"sessions whose numbers are taken there: {told}" + ("" if is_all else ", and others maybe"),
-        "  a number that was used is answered again as it was, and nothing is stored: `publish` and `get` are session "
-        f"1's; use a session of your own, as `send {free} - {first} b` and `get {free} {first}`",
+    queue = names(setup)[0] if names(setup) else "q1"
+    rows = [
+        f"sessions whose numbers are taken in {root}: {told}" + ("" if is_all else ", and others maybe"),
+        "  a number that was used is answered again as it was, and nothing is stored; use a session of your own, as "
+        f"`send {free} - {queue} b` and `get {free} {queue}`",
     ]
+    first = scripts.first_of(sessions, script)
+    if first:
+        number, line, session = first
+        rows.append(f"  line {number} of this script, `{scripts.shown(line)}`, is of session {session}")
+    elif 1 in sessions:
+        rows.append("  `publish` and `get` are of session 1")
+    return rows
 
 
-def compare(root, asked, is_forced):
+def compare(root, asked, is_forced, script=b""):
     """Compares a folder with what the words ask for, and writes its setup where it has none. Returns whether the run
         may start, and what is to be said."""
     now = of_words(asked)
@@ -213,4 +218,4 @@ def compare(root, asked, is_forced):
     )
     if told:
         write(root, now)
-    return True, [*told, *taken(root, now)]
+    return True, [*told, *taken(root, now, script)]
