@@ -4,7 +4,6 @@ import os
 import pty
 import re
 import subprocess
-import time
 
 SLOW = """#!/bin/sh
 sleep 1.5; head -n 3; sleep 3; cat > /dev/null
@@ -39,8 +38,7 @@ def main():
     launch = f'python3 "{os.environ["TREE"]}/tools/launcher/launch.py" ./slow script'
     print(*shown(f"{launch} < many.qq"))
     print(*shown(f"cat many.qq | {launch}"))
-    begun = time.monotonic()
-    print(*shown("./qq script --nodes 3 < /dev/null"), time.monotonic() - begun < 2)
+    print(*shown("./qq script --nodes 3 < /dev/null"))
 
 
 main()

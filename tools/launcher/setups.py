@@ -172,8 +172,8 @@ def taken(root, setup, script):
     queue = names(setup)[0] if names(setup) else "q1"
     rows = [
         f"sessions whose numbers are taken in {root}: {told}" + ("" if is_all else ", and others maybe"),
-        "  a number that was used is answered again as it was, and nothing is stored; use a session of your own, as "
-        f"`send {free} - {queue} b` and `get {free} {queue}`",
+        "  a number that was used is answered as it was, or `forgotten`, and nothing is stored; use a session of your "
+        f"own, as `send {free} - {queue} b` and `get {free} {queue}`",
     ]
     first = scripts.first_of(sessions, script)
     if first:
