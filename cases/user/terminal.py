@@ -1,10 +1,11 @@
 """Runs ./qq with a terminal as its standard error, and says what it shows there: a script from a file, one from a
-pipe, and a short one."""
+pipe, a drill, and a short script."""
 import os
 import pty
 import re
 import subprocess
 
+# A program that reads its input late.
 SLOW = """#!/bin/sh
 sleep 1.5; head -n 3; sleep 3; cat > /dev/null
 """
@@ -38,6 +39,7 @@ def main():
     launch = f'python3 "{os.environ["TREE"]}/tools/launcher/launch.py" ./slow script'
     print(*shown(f"{launch} < many.qq"))
     print(*shown(f"cat many.qq | {launch}"))
+    print(*shown(f"{launch[:-len('script')]}drill 7 < /dev/null"))
     print(*shown("./qq script --nodes 3 < /dev/null"))
 
 

@@ -1,7 +1,6 @@
 """Reads the worked lists of words, and says for how many of them the launcher's rules and the worked answers agree,
 and how many explanations there are: wordlists.py TREE."""
 import glob
-import os
 import sys
 
 sys.path.insert(0, f"{sys.argv[1]}/tools/launcher")

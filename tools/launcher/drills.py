@@ -3,7 +3,7 @@ program's."""
 import subprocess
 import sys
 
-import table
+import model  # it lets the modules of the model be imported
 from cluster import Cluster
 from summaries import summary
 from workloads import Drill, QUEUES

@@ -3,6 +3,7 @@
 Of a folder the program prints the audits, over a copy, as the next run would find them; the commands of the logs'
 entries are then carried out by the independent model, whose answers are compared with the audits'. So nothing is
 changed there."""
+import functools
 import json
 import os
 import shutil
@@ -146,7 +147,9 @@ def setup_of(root):
     )
 
 
+@functools.cache
 def lanes_of(root, node):
+    """Reads a node's log once. A run over the folder makes that stale."""
     log = logs.Log(logs.folder_of(root, node))
     log.read()
     return log.lanes
@@ -164,9 +167,9 @@ def run_over(program, room, setup, lines):
     """Returns what a run over a copy prints, which serves these lines and shows each queue."""
     lines = [*lines, *(f"show #{number}" for number in range(1, len(setup.queues) + 1))]
     words = [program, "script", "--root", room, "--nodes", str(setup.nodes), "--definitions", f"{room}/export.json"]
-    done = subprocess.run(
-        words, input="".join(line + "\n" for line in lines).encode(), stdout=subprocess.PIPE, check=False
-    )
+    script = "".join(line + "\n" for line in lines).encode()
+    done = subprocess.run(words, input=script, stdout=subprocess.PIPE, check=False)
+    lanes_of.cache_clear()
     output = done.stdout.decode("latin-1")
     if done.returncode:
         raise Unread(f"a run over this folder would end with status {done.returncode}: {output.strip()}")
@@ -184,11 +187,13 @@ def elections(room, setup, printed):
     return found
 
 
-def entries_of(room, setup, place, rows):
-    """Returns the entries of the logs' longest lane of a queue: those of an audit of so many rows are among them."""
-    lanes = [lanes_of(room, node).get(place + 1) for node in range(1, setup.nodes + 1)]
-    best = max((lane for lane in lanes if lane), key=lambda lane: lane.last(), default=None)
-    return best.entries[:rows] if best else []
+def entries_of(room, place, audit, printed):
+    """Returns the entries of an audit's rows, which the leader's log begins with."""
+    leaders = [it for it in printed.members.get(audit.queue, {}).values() if it.role == "leader"]
+    if not leaders:
+        return []
+    leader = max(leaders, key=lambda it: it.term)
+    return lanes_of(room, leader.node)[place + 1].entries[: len(audit.rows)]
 
 
 def of_entries(audit, printed, entries, arguments):
@@ -257,7 +262,7 @@ def of_root(program, root):
         if lines:
             printed = run_over(program, room, setup, lines)
         found = [
-            of_entries(audit, printed, entries_of(room, setup, place, len(audit.rows)), setup.queues[place][1])
+            of_entries(audit, printed, entries_of(room, place, audit, printed), setup.queues[place][1])
             for place, audit in enumerate(printed.audits)
         ]
     return [led(queue, audit, opened) for queue, audit in zip(found, opened.audits)]
