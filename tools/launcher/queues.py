@@ -252,6 +252,8 @@ def of_root(program, root):
     if not program:
         raise Unread("no program is built yet: ./qq path builds it")
     setup = setup_of(root)
+    for it in setups.gone(root, setup):
+        print(f"qq: {it}: what it had is missing here, and confirmed messages may be", file=sys.stderr)
     process = explain.holder(os.path.join(root, "lock"))
     if process:
         print(f"qq: process {process} has {root}: this is what its files hold now", file=sys.stderr)

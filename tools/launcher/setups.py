@@ -184,38 +184,57 @@ def taken(root, setup, script):
     return rows
 
 
-def compare(root, asked, is_forced, script=b""):
-    """Compares a folder with what the words ask for, and writes its setup where it has none. Returns whether the run
-        may start, and what is to be said."""
-    now = of_words(asked)
-    if not root or now is None or os.path.exists(root) and not os.path.isdir(root):
-        return True, []
-    if not logs.nodes_in(root):
-        write(root, now)
-        return True, []
-    made = read(root)
-    told = (
-        [] if made else [f"{root} has files, and no `{NAME}` that says with which words: its nodes alone were compared"]
-    )
-    made = made or guess(root, now)
-    other = differences(made, now)
-    if other and not is_forced:
-        return False, [
-            *told,
+def gone(root, setup):
+    """Names the folders of nodes that have no files where others have. Such a node counts as one that never had any."""
+    there, sizes = logs.nodes_in(root), groups(setup)
+    members = {(place + k) % setup.nodes + 1 for place, size in enumerate(sizes) for k in range(size)}
+    return [f"{logs.folder_of(root, node)} has no log files" for node in sorted(members - set(there))]
+
+
+def refusal(root, made, now, other, lost):
+    """Says why a run doesn't start over a folder."""
+    if other:
+        return [
             f"not started: {root} was made with other words or queues",
             *(f"  {it}" for it in other),
             f"  {why_not(made, now)}",
             f"  it was made with: {words_of(made)}",
             "  --force starts it all the same, and makes the words of now those of the folder",
         ]
-    told += (
-        [
-            f"{root} goes on with other words or queues than it was made with, since --force says so",
-            *(f"  {it}" for it in other),
-        ]
-        if other
-        else []
-    )
+    return [
+        f"not started: files of {root} are gone",
+        *(f"  {it}, and other nodes have" for it in lost),
+        "  a node without files counts as one that never had a message: with it the others may lose what was "
+        "confirmed",
+        "  put the files back as they were; --force starts it all the same",
+    ]
+
+
+def forced(root, other, lost):
+    """Says over what a run starts since it is told to."""
+    told = [f"{root} goes on with other words or queues than it was made with, since --force says so"] * bool(other)
+    told += [f"{root} goes on without files that are gone, since --force says so"] * bool(lost)
+    return told + [f"  {it}" for it in other + lost]
+
+
+def compare(root, asked, is_forced, script=b""):
+    """Compares a folder with what the words ask for, and writes its setup where it has none. Returns whether the run
+    may start, and what is to be said."""
+    now = of_words(asked)
+    if not root or now is None or os.path.exists(root) and not os.path.isdir(root):
+        return True, []
+    if not logs.nodes_in(root):
+        write(root, now)
+        return True, []
+    made, told = read(root), []
+    if made is None:
+        made = guess(root, now)
+        told.append(f"{root} has files, and no `{NAME}` that says with which words: its nodes alone were compared")
+    other = differences(made, now)
+    lost = [] if other else gone(root, made)
+    if (other or lost) and not is_forced:
+        return False, told + refusal(root, made, now, other, lost)
+    told += forced(root, other, lost)
     if told:
         write(root, now)
     return True, [*told, *taken(root, now, script)]
