@@ -6,6 +6,11 @@ import sys
 import table
 from model import TOP
 
+DESCRIPTION = (
+    "A script publishes and consumes messages, loses and reorders what nodes send one another, crashes nodes and "
+    "restarts them. Each queue behaves as a RabbitMQ quorum queue over nodes in one process. It opens no socket. What "
+    "it prints as `confirmed` stands in the audit that it prints at the end, whatever crashes."
+)
 FILES = {"docs/qq.1": "manual", "docs/qq.bash": "completions"}
 
 
@@ -38,15 +43,7 @@ def manual():
         ".SH SYNOPSIS",
     ]
     rows += [f".B qq {roff(it.form)}\n.br" for it in table.COMMANDS.values()]
-    rows += [
-        ".SH DESCRIPTION",
-        roff(
-            "A script publishes and consumes messages, loses and reorders what nodes send one another, crashes nodes "
-            "and restarts them. Each queue behaves as a RabbitMQ quorum queue over nodes in one process. It opens no "
-            "socket. What "
-            "it prints as `confirmed` stands in the audit that it prints at the end, whatever crashes."
-        ),
-    ]
+    rows += [".SH DESCRIPTION", roff(DESCRIPTION)]
     rows += part("COMMANDS", [(f"qq {it.form}", it.meaning) for it in table.COMMANDS.values()])
     rows += part("OPTIONS", [(f"{it.name} {it.value}".rstrip(), option_text(it)) for it in table.options().values()])
     rows += part("WORDS OF A LINE", table.letters().items())
@@ -56,7 +53,7 @@ def manual():
     rows += part(
         "EXIT STATUS",
         [
-            (str(it.number), f"{it.comes[:1].upper()}{it.comes[1:]}. Printed last: {it.printed}. " f"{it.advice}")
+            (str(it.number), f"{it.comes[:1].upper()}{it.comes[1:]}. Printed last: {it.printed}. {it.advice}")
             for it in table.statuses().values()
         ],
     )
