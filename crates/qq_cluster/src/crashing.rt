@@ -119,9 +119,7 @@ pub fn crash_each<Y: Yard>(
     let count = nodes.nodes.len();
     'nodes: for at in 0..count {
         let node = nodes.node_id(at);
-        if let Err(fault) = crash_node(nodes, alloc, yard, node, image) {
-            return Err(fault);
-        }
+        crash_node(nodes, alloc, yard, node, image)?;
     }
     Ok(())
 }

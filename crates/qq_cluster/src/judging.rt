@@ -13,8 +13,8 @@ use crate::happening::judge_in;
 use crate::nodes::Nodes;
 use crate::told::Told;
 use qq_base::Memory;
-use qq_queue::{Claim, QueueEvent};
 use qq_disk::NodeDisk;
+use qq_queue::{Claim, QueueEvent};
 use qq_taker::Taker;
 use std::alloc::Global;
 
@@ -88,13 +88,8 @@ impl<D: NodeDisk> Nodes<D> {
         ensures err { IfErr result (GaveUp D.facts (λ setup. IsNextJudged (at + 1))
             self.old self.new) }
     {
-        let claim = match self.judge(alloc, at, told) {
-            Ok(claim) => claim,
-            Err(cause) => return Err(cause),
-        };
-        if let Err(cause) = self.follow(alloc, at, claim, told) {
-            return Err(cause);
-        }
+        let claim = self.judge(alloc, at, told)?;
+        self.follow(alloc, at, claim, told)?;
         Ok(())
     }
 
@@ -115,9 +110,7 @@ impl<D: NodeDisk> Nodes<D> {
     {
         let count = self.untold_count(at);
         'verdicts: for verdict in 0..count {
-            if let Err(cause) = self.judge_next(alloc, at, told) {
-                return Err(cause);
-            }
+            self.judge_next(alloc, at, told)?;
         }
         Ok(())
     }
@@ -140,12 +133,8 @@ impl<D: NodeDisk> Nodes<D> {
         ensures err { IfErr result (GaveUp D.facts (λ setup. Tells (at + 1) (event_of event))
             self.old self.new) }
     {
-        if let Err(cause) = self.happen_active(alloc, at, event, told) {
-            return Err(cause);
-        }
-        if let Err(cause) = self.judge_each(alloc, at, told) {
-            return Err(cause);
-        }
+        self.happen_active(alloc, at, event, told)?;
+        self.judge_each(alloc, at, told)?;
         Ok(())
     }
 
@@ -165,12 +154,8 @@ impl<D: NodeDisk> Nodes<D> {
         ensures err { IfErr result (GaveUp D.facts (λ setup. Tells (at + 1) (event_of event))
             self.old self.new) }
     {
-        if let Err(cause) = self.wake(at) {
-            return Err(cause);
-        }
-        if let Err(cause) = self.tell_active(alloc, at, event, told) {
-            return Err(cause);
-        }
+        self.wake(at)?;
+        self.tell_active(alloc, at, event, told)?;
         Ok(())
     }
 }

@@ -13,9 +13,9 @@ ghost use Rattle.qq_cluster.specs.Nodes.{CanServe, GaveUp, IsNodeAt, IsQueueAt, 
 use crate::nodes::Nodes;
 use crate::told::Told;
 use qq_base::{Memory, NodeId, QueueId};
-use qq_queue::{QueueEvent, sessions_are_those_of_each_queue};
 use qq_disk::NodeDisk;
 use qq_entry::Unstamped;
+use qq_queue::{QueueEvent, sessions_are_those_of_each_queue};
 use qq_taker::Taker;
 use std::alloc::Global;
 
@@ -79,12 +79,8 @@ impl<D: NodeDisk> Nodes<D> {
         ensures err { IfErr result (GaveUp D.facts (λ setup. IsGiven session body (at + 1))
             self.old self.new) }
     {
-        if let Err(cause) = self.wake(at) {
-            return Err(cause);
-        }
-        if let Err(cause) = self.give_active(alloc, at, session, body, told) {
-            return Err(cause);
-        }
+        self.wake(at)?;
+        self.give_active(alloc, at, session, body, told)?;
         Ok(())
     }
 
@@ -106,9 +102,7 @@ impl<D: NodeDisk> Nodes<D> {
         ensures err { IfErr result (GaveUp D.facts (λ (setup : Setup). IsGiven session body queue.0)
             self.old self.new) }
     {
-        if let Err(cause) = self.give_at(alloc, queue.0 as usize - 1, session, body, told) {
-            return Err(cause);
-        }
+        self.give_at(alloc, queue.0 as usize - 1, session, body, told)?;
         Ok(())
     }
 
@@ -131,12 +125,8 @@ impl<D: NodeDisk> Nodes<D> {
         ensures err { IfErr result (GaveUp D.facts
             (λ (setup : Setup). AndPumped setup (IsGiven session body queue.0)) self.old self.new) }
     {
-        if let Err(cause) = self.hand(alloc, queue, session, body, told) {
-            return Err(cause);
-        }
-        if let Err(cause) = self.pumped(alloc, told) {
-            return Err(cause);
-        }
+        self.hand(alloc, queue, session, body, told)?;
+        self.pumped(alloc, told)?;
         Ok(())
     }
 
@@ -163,9 +153,7 @@ impl<D: NodeDisk> Nodes<D> {
             tag,
             number,
         };
-        if let Err(cause) = self.happen(alloc, queue.0 as usize - 1, event, told) {
-            return Err(cause);
-        }
+        self.happen(alloc, queue.0 as usize - 1, event, told)?;
         Ok(())
     }
 
@@ -189,19 +177,15 @@ impl<D: NodeDisk> Nodes<D> {
     {
         let up = self.is_up(node);
         if !up {
-            if let Err(cause) = self.say_down(node, told) {
-                return Err(cause);
-            }
+            self.say_down(node, told)?;
             return Ok(());
         }
-        if let Err(cause) = self.tell(
+        self.tell(
             alloc,
             queue.0 as usize - 1,
             QueueEvent::Notice { node },
             told,
-        ) {
-            return Err(cause);
-        }
+        )?;
         Ok(())
     }
 
@@ -224,19 +208,10 @@ impl<D: NodeDisk> Nodes<D> {
     {
         let up = self.is_up(node);
         if !up {
-            if let Err(cause) = self.say_down(node, told) {
-                return Err(cause);
-            }
+            self.say_down(node, told)?;
             return Ok(());
         }
-        if let Err(cause) = self.happen(
-            alloc,
-            queue.0 as usize - 1,
-            QueueEvent::Tick { node },
-            told,
-        ) {
-            return Err(cause);
-        }
+        self.happen(alloc, queue.0 as usize - 1, QueueEvent::Tick { node }, told)?;
         Ok(())
     }
 
@@ -257,14 +232,10 @@ impl<D: NodeDisk> Nodes<D> {
     {
         let up = self.is_up(node);
         if !up {
-            if let Err(cause) = self.say_down(node, told) {
-                return Err(cause);
-            }
+            self.say_down(node, told)?;
             return Ok(());
         }
-        if let Err(cause) = self.write_up(alloc, node, told) {
-            return Err(cause);
-        }
+        self.write_up(alloc, node, told)?;
         Ok(())
     }
 
@@ -285,14 +256,10 @@ impl<D: NodeDisk> Nodes<D> {
     {
         let up = self.is_up(node);
         if !up {
-            if let Err(cause) = self.say_down(node, told) {
-                return Err(cause);
-            }
+            self.say_down(node, told)?;
             return Ok(());
         }
-        if let Err(cause) = self.sync_up(alloc, node, told) {
-            return Err(cause);
-        }
+        self.sync_up(alloc, node, told)?;
         Ok(())
     }
 
@@ -338,9 +305,7 @@ impl<D: NodeDisk> Nodes<D> {
     {
         let count = self.queues.len();
         'places: for at in 0..count {
-            if let Err(cause) = self.happen(alloc, at, QueueEvent::Down { session }, told) {
-                return Err(cause);
-            }
+            self.happen(alloc, at, QueueEvent::Down { session }, told)?;
         }
         Ok(())
     }
@@ -361,15 +326,9 @@ impl<D: NodeDisk> Nodes<D> {
         ensures err { IfErr result (GaveUp D.facts
             (λ (setup : Setup). AndPumped setup (IsEnd setup session)) self.old self.new) }
     {
-        if let Err(cause) = self.mark_ended(alloc, session) {
-            return Err(cause);
-        }
-        if let Err(cause) = self.down_each(alloc, session, told) {
-            return Err(cause);
-        }
-        if let Err(cause) = self.pumped(alloc, told) {
-            return Err(cause);
-        }
+        self.mark_ended(alloc, session)?;
+        self.down_each(alloc, session, told)?;
+        self.pumped(alloc, told)?;
         Ok(())
     }
 }

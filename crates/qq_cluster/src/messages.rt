@@ -10,9 +10,9 @@ ghost use Rattle.qq_cluster.specs.Nodes.{CanServe, GaveUp, IsNodeAt, IsQueueAt, 
 use crate::nodes::Nodes;
 use crate::told::Told;
 use qq_base::{Memory, NodeId, QueueId};
-use qq_queue::QueueEvent;
 use qq_disk::NodeDisk;
 use qq_group_laws::a_message_is_from_one_member_to_another;
+use qq_queue::QueueEvent;
 use qq_taker::Taker;
 use std::alloc::Global;
 
@@ -52,14 +52,10 @@ impl<D: NodeDisk> Nodes<D> {
     {
         let there = self.receiver(at, message).is_some();
         if !there {
-            if let Err(cause) = self.say_no_such(told) {
-                return Err(cause);
-            }
+            self.say_no_such(told)?;
             return Ok(());
         }
-        if let Err(cause) = self.happen(alloc, at, event, told) {
-            return Err(cause);
-        }
+        self.happen(alloc, at, event, told)?;
         Ok(())
     }
 
@@ -83,16 +79,12 @@ impl<D: NodeDisk> Nodes<D> {
             (λ (setup : Setup). IsDelivered (at + 1) (message - 1) (number_of (Some node)))
             self.old self.new) }
     {
-        if let Err(cause) = self.tell(alloc, at, QueueEvent::Deliver { place: message }, told) {
-            return Err(cause);
-        }
+        self.tell(alloc, at, QueueEvent::Deliver { place: message }, told)?;
         let up = self.is_up(node);
         if up {
             return Ok(());
         }
-        if let Err(cause) = self.say_down(node, told) {
-            return Err(cause);
-        }
+        self.say_down(node, told)?;
         Ok(())
     }
 
@@ -114,20 +106,14 @@ impl<D: NodeDisk> Nodes<D> {
     {
         let at = queue.0 as usize - 1;
         if message == 0 {
-            if let Err(cause) = self.say_no_such(told) {
-                return Err(cause);
-            }
+            self.say_no_such(told)?;
             return Ok(());
         }
         let Some(node) = self.receiver(at, message) else {
-            if let Err(cause) = self.say_no_such(told) {
-                return Err(cause);
-            }
+            self.say_no_such(told)?;
             return Ok(());
         };
-        if let Err(cause) = self.deliver_to(alloc, at, message, node, told) {
-            return Err(cause);
-        }
+        self.deliver_to(alloc, at, message, node, told)?;
         Ok(())
     }
 
@@ -147,21 +133,17 @@ impl<D: NodeDisk> Nodes<D> {
             self.old self.new) }
     {
         if message == 0 {
-            if let Err(cause) = self.say_no_such(told) {
-                return Err(cause);
-            }
+            self.say_no_such(told)?;
             return Ok(());
         }
         let at = queue.0 as usize - 1;
-        if let Err(cause) = self.happen_where_there(
+        self.happen_where_there(
             alloc,
             at,
             message,
             QueueEvent::Lose { place: message },
             told,
-        ) {
-            return Err(cause);
-        }
+        )?;
         Ok(())
     }
 
@@ -181,21 +163,17 @@ impl<D: NodeDisk> Nodes<D> {
             self.old self.new) }
     {
         if message == 0 {
-            if let Err(cause) = self.say_no_such(told) {
-                return Err(cause);
-            }
+            self.say_no_such(told)?;
             return Ok(());
         }
         let at = queue.0 as usize - 1;
-        if let Err(cause) = self.happen_where_there(
+        self.happen_where_there(
             alloc,
             at,
             message,
             QueueEvent::Copy { place: message },
             told,
-        ) {
-            return Err(cause);
-        }
+        )?;
         Ok(())
     }
 }

@@ -12,9 +12,9 @@ use crate::active::Active;
 use crate::node::Node;
 use crate::nodes::Nodes;
 use qq_base::{Duplicate, Memory, NodeId, QueueId, both};
-use qq_queue::{ClusterQueue, Sessions};
 use qq_disk::NodeDisk;
 use qq_group::events_reach_groups;
+use qq_queue::{ClusterQueue, Sessions};
 use qq_route::QueueRow;
 use std::alloc::Global;
 

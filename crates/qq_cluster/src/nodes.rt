@@ -17,8 +17,8 @@ use crate::node::Node;
 use crate::told::Told;
 use itoa::Buffer;
 use qq_base::{Memory, NodeId};
-use qq_queue::{ClusterQueue, QueueEvent, Sessions, a_refusal_tells_an_end};
 use qq_disk::NodeDisk;
+use qq_queue::{ClusterQueue, QueueEvent, Sessions, a_refusal_tells_an_end};
 use qq_taker::Taker;
 use std::alloc::Global;
 
@@ -57,15 +57,9 @@ pub(crate) fn add_node_line<T: Taker>(
     ensures want { IsOkUnless result Memory.Want }
 {
     let mut buffer = Buffer::new();
-    if let Err(cause) = told.write(first.as_bytes()) {
-        return Err(cause);
-    }
-    if let Err(cause) = told.write(buffer.format(u64::from(node.0)).as_bytes()) {
-        return Err(cause);
-    }
-    if let Err(cause) = told.write(last.as_bytes()) {
-        return Err(cause);
-    }
+    told.write(first.as_bytes())?;
+    told.write(buffer.format(u64::from(node.0)).as_bytes())?;
+    told.write(last.as_bytes())?;
     Ok(())
 }
 
@@ -172,12 +166,8 @@ impl<D: NodeDisk> Nodes<D> {
         ensures err { IfErr result (GaveUp D.facts (λ setup. Is (At (at + 1) (event_of event)))
             self.old self.new) }
     {
-        if let Err(cause) = self.wake(at) {
-            return Err(cause);
-        }
-        if let Err(cause) = self.happen_active(alloc, at, event, told) {
-            return Err(cause);
-        }
+        self.wake(at)?;
+        self.happen_active(alloc, at, event, told)?;
         Ok(())
     }
 

@@ -12,8 +12,8 @@ ghost use Rattle.qq_cluster.specs.Nodes.{CanServe, IsQueueAt, Stands};
 
 use crate::nodes::Nodes;
 use qq_base::{Memory, QueueId};
-use qq_queue::Tally;
 use qq_disk::NodeDisk;
+use qq_queue::Tally;
 use std::alloc::Global;
 
 impl<D: NodeDisk> Nodes<D> {

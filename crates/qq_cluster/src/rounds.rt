@@ -11,8 +11,8 @@ ghost use Rattle.qq_cluster.specs.Nodes.{CanServe, GaveUp, IsNodeAt, Served, Sta
 use crate::nodes::Nodes;
 use crate::told::Told;
 use qq_base::{Memory, NodeId};
-use qq_queue::QueueEvent;
 use qq_disk::NodeDisk;
+use qq_queue::QueueEvent;
 use qq_taker::Taker;
 use std::alloc::Global;
 
@@ -42,9 +42,7 @@ impl<D: NodeDisk> Nodes<D> {
         if !waits {
             return Ok(());
         }
-        if let Err(cause) = self.tell_active(alloc, at, QueueEvent::Notice { node }, told) {
-            return Err(cause);
-        }
+        self.tell_active(alloc, at, QueueEvent::Notice { node }, told)?;
         Ok(())
     }
 
@@ -67,9 +65,7 @@ impl<D: NodeDisk> Nodes<D> {
         let count = self.active.len();
         'active: for place in 0..count {
             let at = self.active.at(place);
-            if let Err(cause) = self.notice_active(alloc, at, node, told) {
-                return Err(cause);
-            }
+            self.notice_active(alloc, at, node, told)?;
         }
         Ok(())
     }
@@ -92,14 +88,7 @@ impl<D: NodeDisk> Nodes<D> {
     {
         let count = self.messages(at);
         'messages: for message in 0..count {
-            if let Err(cause) = self.tell_active(
-                alloc,
-                at,
-                QueueEvent::Deliver { place: 1 },
-                told,
-            ) {
-                return Err(cause);
-            }
+            self.tell_active(alloc, at, QueueEvent::Deliver { place: 1 }, told)?;
         }
         Ok(())
     }
@@ -115,9 +104,7 @@ impl<D: NodeDisk> Nodes<D> {
         let count = self.active.len();
         'active: for place in 0..count {
             let at = self.active.at(place);
-            if let Err(cause) = self.empty_active(alloc, at, told) {
-                return Err(cause);
-            }
+            self.empty_active(alloc, at, told)?;
         }
         Ok(())
     }
@@ -136,15 +123,9 @@ impl<D: NodeDisk> Nodes<D> {
         ensures err { IfErr result (GaveUp D.facts (λ (setup : Setup). IsNodeRound setup node.0)
             self.old self.new) }
     {
-        if let Err(cause) = self.write_up(alloc, node, told) {
-            return Err(cause);
-        }
-        if let Err(cause) = self.sync_up(alloc, node, told) {
-            return Err(cause);
-        }
-        if let Err(cause) = self.notice_each(alloc, node, told) {
-            return Err(cause);
-        }
+        self.write_up(alloc, node, told)?;
+        self.sync_up(alloc, node, told)?;
+        self.notice_each(alloc, node, told)?;
         Ok(())
     }
 
@@ -160,9 +141,7 @@ impl<D: NodeDisk> Nodes<D> {
         let count = self.nodes.len();
         'nodes: for at in 0..count {
             let node = self.node_id(at);
-            if let Err(cause) = self.node_round(alloc, node, told) {
-                return Err(cause);
-            }
+            self.node_round(alloc, node, told)?;
         }
         Ok(())
     }
@@ -230,12 +209,8 @@ impl<D: NodeDisk> Nodes<D> {
         ensures ok { OnOk result (Served D.facts IsRound self.old self.new told.old told.new) }
         ensures err { IfErr result (GaveUp D.facts IsRound self.old self.new) }
     {
-        if let Err(cause) = self.round_each(alloc, told) {
-            return Err(cause);
-        }
-        if let Err(cause) = self.empty_each(alloc, told) {
-            return Err(cause);
-        }
+        self.round_each(alloc, told)?;
+        self.empty_each(alloc, told)?;
         self.drop_quiet();
         Ok(())
     }
@@ -253,18 +228,14 @@ impl<D: NodeDisk> Nodes<D> {
             if idle {
                 return Ok(());
             }
-            if let Err(cause) = self.round(alloc, told) {
-                return Err(cause);
-            }
+            self.round(alloc, told)?;
             left -= 1;
         }
         let idle = self.is_idle();
         if idle {
             return Ok(());
         }
-        if let Err(cause) = self.say_busy(told) {
-            return Err(cause);
-        }
+        self.say_busy(told)?;
         Ok(())
     }
 
@@ -281,9 +252,7 @@ impl<D: NodeDisk> Nodes<D> {
         if !self.auto {
             return Ok(());
         }
-        if let Err(cause) = self.pump(alloc, told) {
-            return Err(cause);
-        }
+        self.pump(alloc, told)?;
         Ok(())
     }
 }

@@ -11,9 +11,9 @@ ghost use Rattle.qq_cluster.specs.Sending.{GivesTo, Sends, numbers_of};
 use crate::nodes::Nodes;
 use crate::told::Told;
 use qq_base::{Duplicate, Memory, QueueId};
-use qq_queue::QueueEvent;
 use qq_disk::NodeDisk;
 use qq_entry::Unstamped;
+use qq_queue::QueueEvent;
 use qq_taker::Taker;
 use std::alloc::Global;
 
@@ -41,14 +41,9 @@ impl<D: NodeDisk> Nodes<D> {
             self.old self.new) }
     {
         'queues: for at in 0..count {
-            let own = match body.copy(alloc) {
-                Ok(own) => own,
-                Err(cause) => return Err(cause),
-            };
+            let own = body.copy(alloc)?;
             let queue = queues[at];
-            if let Err(cause) = self.give_at(alloc, queue.0 as usize - 1, session, own, told) {
-                return Err(cause);
-            }
+            self.give_at(alloc, queue.0 as usize - 1, session, own, told)?;
         }
         Ok(())
     }
@@ -74,19 +69,13 @@ impl<D: NodeDisk> Nodes<D> {
     {
         let count = queues.len();
         if count == 0 {
-            if let Err(cause) = self.say_unroutable(told) {
-                return Err(cause);
-            }
+            self.say_unroutable(told)?;
             return Ok(());
         }
         let last = count - 1;
-        if let Err(cause) = self.give_first(alloc, queues, last, session, &body, told) {
-            return Err(cause);
-        }
+        self.give_first(alloc, queues, last, session, &body, told)?;
         let queue = queues[last];
-        if let Err(cause) = self.give_at(alloc, queue.0 as usize - 1, session, body, told) {
-            return Err(cause);
-        }
+        self.give_at(alloc, queue.0 as usize - 1, session, body, told)?;
         Ok(())
     }
 
@@ -111,12 +100,8 @@ impl<D: NodeDisk> Nodes<D> {
             (λ (setup : Setup). AndPumped setup (IsRouted session body (numbers_of queues.now)))
             self.old self.new) }
     {
-        if let Err(cause) = self.route(alloc, queues, session, body, told) {
-            return Err(cause);
-        }
-        if let Err(cause) = self.pumped(alloc, told) {
-            return Err(cause);
-        }
+        self.route(alloc, queues, session, body, told)?;
+        self.pumped(alloc, told)?;
         Ok(())
     }
 
@@ -137,9 +122,7 @@ impl<D: NodeDisk> Nodes<D> {
     {
         let count = self.queues.len();
         'places: for at in 0..count {
-            if let Err(cause) = self.happen(alloc, at, QueueEvent::Resend { session }, told) {
-                return Err(cause);
-            }
+            self.happen(alloc, at, QueueEvent::Resend { session }, told)?;
         }
         Ok(())
     }
@@ -161,9 +144,7 @@ impl<D: NodeDisk> Nodes<D> {
     {
         let count = self.queues.len();
         'places: for at in 0..count {
-            if let Err(cause) = self.tell(alloc, at, QueueEvent::Fetch { session }, told) {
-                return Err(cause);
-            }
+            self.tell(alloc, at, QueueEvent::Fetch { session }, told)?;
         }
         Ok(())
     }
@@ -181,12 +162,8 @@ impl<D: NodeDisk> Nodes<D> {
         ensures err { IfErr result (GaveUp D.facts (λ (setup : Setup). Sends setup session)
             self.old self.new) }
     {
-        if let Err(cause) = self.resend_each(alloc, session, told) {
-            return Err(cause);
-        }
-        if let Err(cause) = self.fetch_each(alloc, session, told) {
-            return Err(cause);
-        }
+        self.resend_each(alloc, session, told)?;
+        self.fetch_each(alloc, session, told)?;
         Ok(())
     }
 
@@ -210,14 +187,10 @@ impl<D: NodeDisk> Nodes<D> {
             if !some {
                 return Ok(());
             }
-            if let Err(cause) = self.say_ended(told) {
-                return Err(cause);
-            }
+            self.say_ended(told)?;
             return Ok(());
         }
-        if let Err(cause) = self.resend_and_fetch(alloc, session, told) {
-            return Err(cause);
-        }
+        self.resend_and_fetch(alloc, session, told)?;
         Ok(())
     }
 
@@ -236,12 +209,8 @@ impl<D: NodeDisk> Nodes<D> {
         ensures err { IfErr result (GaveUp D.facts
             (λ (setup : Setup). AndPumped setup (IsResend setup session)) self.old self.new) }
     {
-        if let Err(cause) = self.resend_or_tell(alloc, session, told) {
-            return Err(cause);
-        }
-        if let Err(cause) = self.pumped(alloc, told) {
-            return Err(cause);
-        }
+        self.resend_or_tell(alloc, session, told)?;
+        self.pumped(alloc, told)?;
         Ok(())
     }
 }

@@ -68,9 +68,7 @@ impl<D: NodeDisk> Nodes<D> {
     {
         let count = self.nodes.len();
         'nodes: for at in 0..count {
-            if let Err(cause) = self.show_member(alloc, queue, at, told) {
-                return Err(cause);
-            }
+            self.show_member(alloc, queue, at, told)?;
         }
         Ok(())
     }

@@ -7,8 +7,8 @@ ghost use Rattle.qq_cluster.specs.Nodes.{CanServe, GaveUp, Served};
 use crate::nodes::Nodes;
 use crate::told::Told;
 use qq_base::Memory;
-use qq_queue::QueueEvent;
 use qq_disk::NodeDisk;
+use qq_queue::QueueEvent;
 use qq_taker::Taker;
 use std::alloc::Global;
 
@@ -31,9 +31,7 @@ impl<D: NodeDisk> Nodes<D> {
         let Some(node) = first else {
             return Ok(());
         };
-        if let Err(cause) = self.happen(alloc, at, QueueEvent::Tick { node }, told) {
-            return Err(cause);
-        }
+        self.happen(alloc, at, QueueEvent::Tick { node }, told)?;
         Ok(())
     }
 
@@ -48,9 +46,7 @@ impl<D: NodeDisk> Nodes<D> {
     {
         let count = self.queues.len();
         'places: for at in 0..count {
-            if let Err(cause) = self.tick_first(alloc, at, told) {
-                return Err(cause);
-            }
+            self.tick_first(alloc, at, told)?;
         }
         Ok(())
     }

@@ -8,9 +8,9 @@ ghost use Rattle.qq_cluster.specs.Turning.{HasTaken, HasTurned, TakesAt, TurnsAt
 
 use crate::nodes::Nodes;
 use qq_base::{Memory, NodeId};
-use qq_queue::ClusterQueue;
 use qq_disk::NodeDisk;
 use qq_log::Op;
+use qq_queue::ClusterQueue;
 use std::alloc::Global;
 
 // What waits at a node is handed out by the queue at an index.
@@ -112,9 +112,7 @@ impl<D: NodeDisk> Nodes<D> {
         let count = self.active.len();
         'active: for place in 0..count {
             let at = self.active.at(place);
-            if let Err(cause) = take_in(&mut self.queues, alloc, at, node, &mut ops) {
-                return Err(cause);
-            }
+            take_in(&mut self.queues, alloc, at, node, &mut ops)?;
         }
         Ok(ops)
     }

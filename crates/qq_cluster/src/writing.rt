@@ -54,9 +54,7 @@ impl<D: NodeDisk> Nodes<D> {
         ensures err { OnErr result (self.new ≡ self.old) }
         ensures want { IsOkUnless result Memory.Want }
     {
-        if let Err(cause) = self.say_stopped(node, told) {
-            return Err(cause);
-        }
+        self.say_stopped(node, told)?;
         self.stop(alloc, node);
         Ok(())
     }
@@ -80,24 +78,16 @@ impl<D: NodeDisk> Nodes<D> {
         if !up {
             return Ok(());
         }
-        let ops = match self.take_ops(alloc, node) {
-            Ok(ops) => ops,
-            Err(cause) => return Err(cause),
-        };
+        let ops = self.take_ops(alloc, node)?;
         let count = ops.len();
         if count == 0 {
             return Ok(());
         }
-        let more = match append_in(&mut self.nodes, alloc, node.0 as usize - 1, ops) {
-            Ok(more) => more,
-            Err(cause) => return Err(cause),
-        };
+        let more = append_in(&mut self.nodes, alloc, node.0 as usize - 1, ops)?;
         if more {
             return Ok(());
         }
-        if let Err(cause) = self.fail(alloc, node, told) {
-            return Err(cause);
-        }
+        self.fail(alloc, node, told)?;
         Ok(())
     }
 
@@ -119,10 +109,7 @@ impl<D: NodeDisk> Nodes<D> {
         if !up {
             return Ok(());
         }
-        let outcome = match sync_in(&mut self.nodes, alloc, node.0 as usize - 1) {
-            Ok(outcome) => outcome,
-            Err(cause) => return Err(cause),
-        };
+        let outcome = sync_in(&mut self.nodes, alloc, node.0 as usize - 1)?;
         match outcome {
             SyncOutcome::Whole => {
                 self.mark_synced(node);
@@ -130,15 +117,11 @@ impl<D: NodeDisk> Nodes<D> {
             }
             SyncOutcome::NoFile => {
                 self.mark_synced(node);
-                if let Err(cause) = self.fail(alloc, node, told) {
-                    return Err(cause);
-                }
+                self.fail(alloc, node, told)?;
                 Ok(())
             }
             SyncOutcome::Nothing => {
-                if let Err(cause) = self.fail(alloc, node, told) {
-                    return Err(cause);
-                }
+                self.fail(alloc, node, told)?;
                 Ok(())
             }
         }

@@ -1,4 +1,5 @@
 use Rattle.std.proofs.Common.{arith}
+use Rattle.qq_base.proofs.Exits.{at_exit}
 use Rattle.qq_cluster.proofs.CrashedEach.{cause-later, cause-none, crashed-all, crashed-can, crashed-more, crashed-none}
 use Rattle.qq_cluster.proofs.Pumping.{node-of}
 use Rattle.qq_cluster.proofs.crashing.crash_each.Goals as goal
@@ -25,8 +26,8 @@ pub nodes-preserved : goal.nodes-preserved
 nodes-preserved g c = (
   crashed-more c.args.image.now c.nodes.at c.node_id-node.result c.args.nodes.now _ _
       (let many = (crashed-can c.args.image.now c.nodes.at c.args.nodes.now _ c.requires.serve c.nodes.invariant.0).1 in
-      omega (arith, many, c.len-count.ensures)) c.node_id-node.ensures c.nodes.invariant.0 c.in_default.ensures.ok,
-  (let first = c.nodes.invariant.1 in let more = c.in_default.ensures.cause.later in omega (arith, first, more)),
+      omega (arith, many, c.len-count.ensures)) c.node_id-node.ensures c.nodes.invariant.0 c.in_ok-crash_node.ensures.ok,
+  (let first = c.nodes.invariant.1 in let more = c.in_ok-crash_node.ensures.cause.later in omega (arith, first, more)),
 )
 
 pub returns-clause-ok : goal.returns-clause-ok
@@ -35,8 +36,9 @@ returns-clause-ok g c =
     (let many = (crashed-can c.args.image.now c.nodes.at c.args.nodes.now _ c.requires.serve c.nodes.invariant.0).1 in
     omega (arith, many, c.len-count.ensures)) c.nodes.invariant.0
 
-pub returns-in-Err-clause-cause : goal.returns-in-Err-clause-cause
-returns-in-Err-clause-cause g c = cause-later _ _ _ c.in-Err.fault c.nodes.invariant.1 c.in-Err.ensures.cause
+pub returns-in_err-crash_node-clause-cause : goal.returns-in_err-crash_node-clause-cause
+returns-in_err-crash_node-clause-cause g c =
+    at_exit _ _ c.from_residual.ensures.1 (cause-later _ _ _ c.in_err-crash_node.field-0.0 c.nodes.invariant.1 c.in_err-crash_node.ensures.cause)
 
 pub returns-clause-cause : goal.returns-clause-cause
 returns-clause-cause g c = cause-none _ _ c.nodes.invariant.1

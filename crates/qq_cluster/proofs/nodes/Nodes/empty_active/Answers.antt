@@ -1,5 +1,6 @@
 use Rattle.std.proofs.Common.{◌∙◌, ap, refl, arith, ◌+◌}
 use Rattle.std.specs.Prelude.{length}
+use Rattle.qq_base.proofs.Exits.{at_exit}
 use Rattle.qq_cluster_model.specs.Cluster.{Cluster}
 use Rattle.qq_cluster.specs.Active.{is_in}
 use Rattle.qq_cluster_model.specs.Queue.{Delivers}
@@ -27,7 +28,7 @@ tell_active-requires-clause-active g c = ap (is_in c.args.at) c.messages.invaria
 pub messages-preserved : goal.messages-preserved
 messages-preserved g c = (
   times-more (Tells (c.args.at + 1) (Delivers 0)) c.messages.message c.messages-count.result (omega arith)
-      c.messages.invariant.0 c.in_default.ensures.ok,
+      c.messages.invariant.0 c.in_ok-tell_active.ensures.ok,
   c.tell_active.ensures.active ∙ c.messages.invariant.1,
 )
 
@@ -38,9 +39,9 @@ returns-clause-ok g c =
     (times-end (Tells (c.args.at + 1) (Delivers 0)) c.messages.message c.messages-count.result (omega arith)
     c.messages.invariant.0)
 
-pub returns-in-Err-clause-err : goal.returns-in-Err-clause-err
-returns-in-Err-clause-err g c =
-    times-by_gave_up (Tells (c.args.at + 1) (Delivers 0)) c.messages-count.result
+pub returns-in_err-tell_active-clause-err : goal.returns-in_err-tell_active-clause-err
+returns-in_err-tell_active-clause-err g c =
+    at_exit _ _ c.from_residual.ensures.1 (times-by_gave_up (Tells (c.args.at + 1) (Delivers 0)) c.messages-count.result
     (λ (d : Cluster). length (d.queue (c.args.at + 1)).group.bag) c.messages-count.ensures
     (times-gave_up (Tells (c.args.at + 1) (Delivers 0)) c.messages.message c.messages-count.result
-    (total-tells (c.args.at + 1) (Delivers 0)) (omega arith) c.messages.invariant.0 c.in-Err.ensures.err)
+    (total-tells (c.args.at + 1) (Delivers 0)) (omega arith) c.messages.invariant.0 c.in_err-tell_active.ensures.err))

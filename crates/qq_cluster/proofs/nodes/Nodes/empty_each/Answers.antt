@@ -1,5 +1,6 @@
 use Rattle.std.proofs.Common.{◌∙◌, ap, refl, arith}
 use Rattle.std.specs.Prelude.{length}
+use Rattle.qq_base.proofs.Exits.{at_exit}
 use Rattle.qq_cluster_model.specs.Cluster.{Setup}
 use Rattle.qq_cluster_model.specs.Rules.{IsEmptied}
 use Rattle.qq_cluster.proofs.Pumping.{below-active, emptied-passes, is-active, walk-end, walk-gave_up, walk-more}
@@ -35,7 +36,7 @@ active-preserved g c = (
   walk-more (λ (setup : Setup). IsEmptied) c.active.place c.at-at.result c.requires c.len-count.ensures.rising
       c.active.invariant.1 c.empty_active.ensures.active (omega (arith, c.len-count.ensures.count)) c.at-at.ensures
       (emptied-passes c.empty_active.new.self)
-      c.active.invariant.0 c.in_default.ensures.ok,
+      c.active.invariant.0 c.in_ok-empty_active.ensures.ok,
   c.empty_active.ensures.active ∙ c.active.invariant.1,
 )
 
@@ -44,8 +45,8 @@ returns-clause-ok g c =
     walk-end (λ (setup : Setup). IsEmptied) c.active.place c.active.invariant.1
     (omega (arith, c.len-count.ensures.count)) c.active.invariant.0
 
-pub returns-in-Err-clause-err : goal.returns-in-Err-clause-err
-returns-in-Err-clause-err g c =
-    walk-gave_up (λ (setup : Setup). IsEmptied) c.active.place c.at-at.result (λ setup place. total-emptied place) c.requires
+pub returns-in_err-empty_active-clause-err : goal.returns-in_err-empty_active-clause-err
+returns-in_err-empty_active-clause-err g c =
+    at_exit _ _ c.from_residual.ensures.1 (walk-gave_up (λ (setup : Setup). IsEmptied) c.active.place c.at-at.result (λ setup place. total-emptied place) c.requires
     c.active.invariant.1 (omega (arith, c.len-count.ensures.count)) c.at-at.ensures c.active.invariant.0
-    c.in-Err.ensures.err
+    c.in_err-empty_active.ensures.err)

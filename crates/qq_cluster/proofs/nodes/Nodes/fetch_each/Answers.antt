@@ -1,4 +1,5 @@
 use Rattle.std.proofs.Common.{arith}
+use Rattle.qq_base.proofs.Exits.{at_exit}
 use Rattle.qq_cluster_model.specs.Cluster.{Setup}
 use Rattle.qq_cluster_model.specs.Queue.{Fetches}
 use Rattle.qq_cluster_model.specs.Rules.{Tells}
@@ -25,7 +26,7 @@ pub places-preserved : goal.places-preserved
 places-preserved g c =
     places-more (λ (setup : Setup) place. Tells place (Fetches c.args.session)) c.places.at
     (let many = (many-after c.requires c.places.invariant).0 in omega (arith, many, c.len-count.ensures))
-    c.places.invariant c.in_default.ensures.ok
+    c.places.invariant c.in_ok-tell.ensures.ok
 
 pub returns-clause-ok : goal.returns-clause-ok
 returns-clause-ok g c =
@@ -33,9 +34,9 @@ returns-clause-ok g c =
     (let many = (many-after c.requires c.places.invariant).0 in omega (arith, many, c.len-count.ensures))
     c.places.invariant
 
-pub returns-in-Err-clause-err : goal.returns-in-Err-clause-err
-returns-in-Err-clause-err g c =
-    places-gave_up (λ (setup : Setup) place. Tells place (Fetches c.args.session)) c.places.at
+pub returns-in_err-tell-clause-err : goal.returns-in_err-tell-clause-err
+returns-in_err-tell-clause-err g c =
+    at_exit _ _ c.from_residual.ensures.1 (places-gave_up (λ (setup : Setup) place. Tells place (Fetches c.args.session)) c.places.at
     (λ setup place. total-tells place (Fetches c.args.session))
     (let many = (many-after c.requires c.places.invariant).0 in omega (arith, many, c.len-count.ensures))
-    c.places.invariant c.in-Err.ensures.err
+    c.places.invariant c.in_err-tell.ensures.err)

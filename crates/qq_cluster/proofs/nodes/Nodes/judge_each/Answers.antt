@@ -1,5 +1,6 @@
 use Rattle.std.proofs.Common.{◌∙◌, ap, refl, arith, ◌+◌}
 use Rattle.std.specs.Prelude.{length}
+use Rattle.qq_base.proofs.Exits.{at_exit}
 use Rattle.qq_cluster_model.specs.Cluster.{Cluster}
 use Rattle.qq_cluster.specs.Active.{is_in}
 use Rattle.qq_cluster_model.specs.Rules.{IsNextJudged}
@@ -26,7 +27,7 @@ judge_next-requires-clause-active g c = ap (is_in c.args.at) c.verdicts.invarian
 pub verdicts-preserved : goal.verdicts-preserved
 verdicts-preserved g c = (
   times-more (IsNextJudged (c.args.at + 1)) c.verdicts.verdict c.untold_count-count.result (omega arith)
-      c.verdicts.invariant.0 c.in_default.ensures.ok,
+      c.verdicts.invariant.0 c.in_ok-judge_next.ensures.ok,
   c.judge_next.ensures.active ∙ c.verdicts.invariant.1,
 )
 
@@ -37,9 +38,9 @@ returns-clause-ok g c =
     (times-end (IsNextJudged (c.args.at + 1)) c.verdicts.verdict c.untold_count-count.result (omega arith)
     c.verdicts.invariant.0)
 
-pub returns-in-Err-clause-err : goal.returns-in-Err-clause-err
-returns-in-Err-clause-err g c =
-    times-by_gave_up (IsNextJudged (c.args.at + 1)) c.untold_count-count.result
+pub returns-in_err-judge_next-clause-err : goal.returns-in_err-judge_next-clause-err
+returns-in_err-judge_next-clause-err g c =
+    at_exit _ _ c.from_residual.ensures.1 (times-by_gave_up (IsNextJudged (c.args.at + 1)) c.untold_count-count.result
     (λ (d : Cluster). length (d.queue (c.args.at + 1)).untold) c.untold_count-count.ensures
     (times-gave_up (IsNextJudged (c.args.at + 1)) c.verdicts.verdict c.untold_count-count.result
-    (total-next (c.args.at + 1)) (omega arith) c.verdicts.invariant.0 c.in-Err.ensures.err)
+    (total-next (c.args.at + 1)) (omega arith) c.verdicts.invariant.0 c.in_err-judge_next.ensures.err))

@@ -1,5 +1,6 @@
 use Rattle.std.proofs.Common.{◌∙◌, ap, refl, arith}
 use Rattle.std.specs.Prelude.{length}
+use Rattle.qq_base.proofs.Exits.{at_exit}
 use Rattle.qq_cluster_model.specs.Cluster.{Setup}
 use Rattle.qq_cluster_model.specs.Rules.{IsNotice}
 use Rattle.qq_cluster.proofs.Pumping.{below-active, notice-passes, is-active, node-after, walk-end, walk-gave_up, walk-more}
@@ -37,8 +38,8 @@ pub active-preserved : goal.active-preserved
 active-preserved g c = (
   walk-more (λ (setup : Setup). IsNotice c.args.node.0) c.active.place c.at-at.result c.requires.serve c.len-count.ensures.rising
       c.active.invariant.1 c.notice_active.ensures.active (omega (arith, c.len-count.ensures.count)) c.at-at.ensures
-      (notice-passes c.args.node c.notice_active.new.self (node-after c.args.node (can-after c.requires.serve c.active.invariant.0) c.in_default.ensures.ok (node-after c.args.node c.requires.serve c.active.invariant.0 c.requires.node)))
-      c.active.invariant.0 c.in_default.ensures.ok,
+      (notice-passes c.args.node c.notice_active.new.self (node-after c.args.node (can-after c.requires.serve c.active.invariant.0) c.in_ok-notice_active.ensures.ok (node-after c.args.node c.requires.serve c.active.invariant.0 c.requires.node)))
+      c.active.invariant.0 c.in_ok-notice_active.ensures.ok,
   c.notice_active.ensures.active ∙ c.active.invariant.1,
 )
 
@@ -47,8 +48,8 @@ returns-clause-ok g c =
     walk-end (λ (setup : Setup). IsNotice c.args.node.0) c.active.place c.active.invariant.1
     (omega (arith, c.len-count.ensures.count)) c.active.invariant.0
 
-pub returns-in-Err-clause-err : goal.returns-in-Err-clause-err
-returns-in-Err-clause-err g c =
-    walk-gave_up (λ (setup : Setup). IsNotice c.args.node.0) c.active.place c.at-at.result (λ setup place. total-notice c.args.node.0 place) c.requires.serve
+pub returns-in_err-notice_active-clause-err : goal.returns-in_err-notice_active-clause-err
+returns-in_err-notice_active-clause-err g c =
+    at_exit _ _ c.from_residual.ensures.1 (walk-gave_up (λ (setup : Setup). IsNotice c.args.node.0) c.active.place c.at-at.result (λ setup place. total-notice c.args.node.0 place) c.requires.serve
     c.active.invariant.1 (omega (arith, c.len-count.ensures.count)) c.at-at.ensures c.active.invariant.0
-    c.in-Err.ensures.err
+    c.in_err-notice_active.ensures.err)

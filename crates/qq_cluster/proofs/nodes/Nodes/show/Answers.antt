@@ -9,7 +9,7 @@ nodes-init g c = λ setup d st. same-outcome c.args.told.now
 pub nodes-preserved : goal.nodes-preserved
 nodes-preserved g c =
     shown-more c.args.queue.0 c.nodes.at c.args.self.now c.args.told.now _ _ (omega (arith, c.len-count.ensures))
-    c.nodes.invariant c.in_default.ensures.ok
+    c.nodes.invariant c.in_ok-show_member.ensures.ok
 
 pub returns-clause-ok : goal.returns-clause-ok
 returns-clause-ok g c =

@@ -1,4 +1,5 @@
 use Rattle.std.proofs.Common.{◌-◌, sym, ◌∙◌, subst}
+use Rattle.qq_base.proofs.Exits.{at_exit}
 use Rattle.qq_cluster_model.specs.Queue.{Syncs as SyncsAt}
 use Rattle.qq_cluster.specs.Active.{is_in}
 use Rattle.qq_cluster.specs.Logs.{NodeTurns, Syncs}
@@ -17,11 +18,11 @@ sync_in-requires-clause-may g c =
     may-sync c.args.node.0 c.args.self.now c.requires.node.0 (λ setup d st. sym c.if-not-up.false ∙ c.is_up-up.ensures setup d st)
     c.requires.serve
 
-pub returns-in-Err-clause-err : goal.returns-in-Err-clause-err
-returns-in-Err-clause-err g c =
-    sync-spent c.args.node.0 c.args.self.now c.sync_in.new.nodes c.requires.node.0 c.requires.node.1
+pub returns-in_err-outcome-clause-err : goal.returns-in_err-outcome-clause-err
+returns-in_err-outcome-clause-err g c =
+    at_exit _ _ c.from_residual.ensures.1 (sync-spent c.args.node.0 c.args.self.now c.sync_in.new.nodes c.requires.node.0 c.requires.node.1
     (λ setup d st. sym c.if-not-up.false ∙ c.is_up-up.ensures setup d st)
-    c.in-Err.cause c.in-Err.ensures.err
+    c.in_err-outcome.field-0.0 c.in_err-outcome.ensures.err)
 
 pub mark_synced-requires-clause-sound : goal.mark_synced-requires-clause-sound
 mark_synced-requires-clause-sound g c = queues-sound c.requires.serve
@@ -35,23 +36,23 @@ fail-requires-clause-sound g c =
     c.mark_synced-in-NoFile.new.self.queues.items (queues-sound c.requires.serve)
     c.mark_synced-in-NoFile.ensures.turns
 
-pub returns-in-Err-fail-clause-err : goal.returns-in-Err-fail-clause-err
-returns-in-Err-fail-clause-err g c =
-    sync-wants c.args.node.0 c.args.self.now c.sync_in.new.nodes c.requires.node.0 c.requires.node.1
+pub returns-in_err-fail-clause-err : goal.returns-in_err-fail-clause-err
+returns-in_err-fail-clause-err g c =
+    at_exit _ _ c.from_residual-in_err-fail.ensures.1 (sync-wants c.args.node.0 c.args.self.now c.sync_in.new.nodes c.requires.node.0 c.requires.node.1
     (λ setup d st. sym c.if-not-up.false ∙ c.is_up-up.ensures setup d st)
-    c.in-Ok.outcome c.fail.new.self c.in-Err-fail.cause c.in-Ok.ensures.ok
-    (nodes-as c.fail.new.self c.mark_synced-in-NoFile.new.self c.in-Err-fail.ensures.err
-    ∙ nodes-as c.mark_synced-in-NoFile.new.self _ c.mark_synced-in-NoFile.ensures.same) c.in-Err-fail.ensures.want
+    c.in_ok-outcome.outcome c.fail.new.self c.in_err-fail.field-0.0 c.in_ok-outcome.ensures.ok
+    (nodes-as c.fail.new.self c.mark_synced-in-NoFile.new.self c.in_err-fail.ensures.err
+    ∙ nodes-as c.mark_synced-in-NoFile.new.self _ c.mark_synced-in-NoFile.ensures.same) c.in_err-fail.ensures.want)
 
 pub fail-requires-in-Nothing-clause-sound : goal.fail-requires-in-Nothing-clause-sound
 fail-requires-in-Nothing-clause-sound g c = queues-sound c.requires.serve
 
-pub returns-in-Err-fail-2-clause-err : goal.returns-in-Err-fail-2-clause-err
-returns-in-Err-fail-2-clause-err g c =
-    sync-wants c.args.node.0 c.args.self.now c.sync_in.new.nodes c.requires.node.0 c.requires.node.1
+pub returns-in_err-fail-2-clause-err : goal.returns-in_err-fail-2-clause-err
+returns-in_err-fail-2-clause-err g c =
+    at_exit _ _ c.from_residual-in_err-fail-2.ensures.1 (sync-wants c.args.node.0 c.args.self.now c.sync_in.new.nodes c.requires.node.0 c.requires.node.1
     (λ setup d st. sym c.if-not-up.false ∙ c.is_up-up.ensures setup d st)
-    c.in-Ok.outcome c.fail-in-Nothing.new.self c.in-Err-fail-2.cause c.in-Ok.ensures.ok
-    (nodes-as c.fail-in-Nothing.new.self _ c.in-Err-fail-2.ensures.err) c.in-Err-fail-2.ensures.want
+    c.in_ok-outcome.outcome c.fail-in-Nothing.new.self c.in_err-fail-2.field-0.0 c.in_ok-outcome.ensures.ok
+    (nodes-as c.fail-in-Nothing.new.self _ c.in_err-fail-2.ensures.err) c.in_err-fail-2.ensures.want)
 
 pub returns-in-Whole-clause-ok : goal.returns-in-Whole-clause-ok
 returns-in-Whole-clause-ok g c =
@@ -59,7 +60,7 @@ returns-in-Whole-clause-ok g c =
     (λ setup d st. sym c.if-not-up.false ∙ c.is_up-up.ensures setup d st)
     c.mark_synced.new.self c.args.told.now (subst
     (λ outcome. NodeTurns (Syncs g.D.NodeDisk.facts outcome) (c.args.node.0 - 1) c.args.self.now.nodes.items
-    c.sync_in.new.nodes.items) c.in-Whole.is c.in-Ok.ensures.ok) c.mark_synced.ensures
+    c.sync_in.new.nodes.items) c.in-Whole.is c.in_ok-outcome.ensures.ok) c.mark_synced.ensures
 
 pub returns-in_default-clause-ok : goal.returns-in_default-clause-ok
 returns-in_default-clause-ok g c =
@@ -67,8 +68,8 @@ returns-in_default-clause-ok g c =
     (λ setup d st. sym c.if-not-up.false ∙ c.is_up-up.ensures setup d st)
     c.mark_synced-in-NoFile.new.self c.fail.new.self c.args.told.now c.fail.new.told (subst
     (λ outcome. NodeTurns (Syncs g.D.NodeDisk.facts outcome) (c.args.node.0 - 1) c.args.self.now.nodes.items
-    c.sync_in.new.nodes.items) c.in-NoFile.is c.in-Ok.ensures.ok)
-    c.mark_synced-in-NoFile.ensures c.in_default.ensures.ok c.in_default.ensures.says
+    c.sync_in.new.nodes.items) c.in-NoFile.is c.in_ok-outcome.ensures.ok)
+    c.mark_synced-in-NoFile.ensures c.in_ok-fail.ensures.ok c.in_ok-fail.ensures.says
 
 pub returns-in_default-fail-clause-ok : goal.returns-in_default-fail-clause-ok
 returns-in_default-fail-clause-ok g c =
@@ -76,5 +77,5 @@ returns-in_default-fail-clause-ok g c =
     (λ setup d st. sym c.if-not-up.false ∙ c.is_up-up.ensures setup d st)
     c.fail-in-Nothing.new.self c.args.told.now c.fail-in-Nothing.new.told (subst
     (λ outcome. NodeTurns (Syncs g.D.NodeDisk.facts outcome) (c.args.node.0 - 1) c.args.self.now.nodes.items
-    c.sync_in.new.nodes.items) c.in-Nothing.is c.in-Ok.ensures.ok)
+    c.sync_in.new.nodes.items) c.in-Nothing.is c.in_ok-outcome.ensures.ok)
     c.in_default-fail.ensures.ok c.in_default-fail.ensures.says

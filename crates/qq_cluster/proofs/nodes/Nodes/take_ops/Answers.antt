@@ -30,7 +30,7 @@ active-preserved g c =
     taking-more c.args.node.0 c.active.place c.at-at.result c.args.self.now c.active.self
     (record c.active.self { queues = c.take_in.new.queues }) c.active.ops.items c.take_in.new.ops.items
     c.len-count.ensures.rising c.requires.within (omega (arith, c.len-count.ensures.count)) c.at-at.ensures
-    c.active.invariant refl c.in_default.ensures.ok c.in_default.ensures.taken c.in_default.ensures.may
+    c.active.invariant refl c.in_ok-take_in.ensures.ok c.in_ok-take_in.ensures.taken c.in_ok-take_in.ensures.may
 
 pub returns-clause-ok : goal.returns-clause-ok
 returns-clause-ok g c =

@@ -1,4 +1,5 @@
 use Rattle.std.proofs.Common.{refl, sym, ◌∙◌}
+use Rattle.qq_base.proofs.Exits.{at_exit}
 use Rattle.qq_cluster_model.specs.Cluster.{At, Setup}
 use Rattle.qq_cluster_model.specs.Queue.{Ticks}
 use Rattle.qq_cluster_model.specs.Rules.{Is}
@@ -9,10 +10,11 @@ use Rattle.qq_cluster.proofs.nodes.Nodes.tick.Goals as goal
 pub returns-then-not-up-clause-ok : goal.returns-then-not-up-clause-ok
 returns-then-not-up-clause-ok g c =
     where-down {Rule = λ (setup : Setup). Is (At c.args.queue.0 (Ticks c.args.node.0))} c.args.node.0
-    (λ setup d st. sym c.if-not-up.true ∙ c.is_up-up.ensures setup d st) c.in_default.ensures.ok
+    (λ setup d st. sym c.if-not-up.true ∙ c.is_up-up.ensures setup d st) c.in_ok-say_down.ensures.ok
 
-pub returns-in-Err-clause-err : goal.returns-in-Err-clause-err
-returns-in-Err-clause-err g c = gave_up-same c.args.self.now c.args.self.now c.in-Err.cause refl c.in-Err.ensures.want
+pub returns-in_err-say_down-clause-err : goal.returns-in_err-say_down-clause-err
+returns-in_err-say_down-clause-err g c =
+    at_exit _ _ c.from_residual.ensures.1 (gave_up-same c.args.self.now c.args.self.now c.in_err-say_down.field-0.0 refl c.in_err-say_down.ensures.want)
 
 pub happen-requires-clause-place : goal.happen-requires-clause-place
 happen-requires-clause-place g c = queue-index c.args.self.now c.args.queue c.requires.queue
@@ -21,10 +23,10 @@ pub returns-clause-ok : goal.returns-clause-ok
 returns-clause-ok g c =
     where-up {Rule = λ (setup : Setup). Is (At c.args.queue.0 (Ticks c.args.node.0))} c.args.node.0
     (λ setup d st. sym c.if-not-up.false ∙ c.is_up-up.ensures setup d st)
-    (at-queue (λ k (setup : Setup). Is (At k (Ticks c.args.node.0))) c.args.queue c.requires.queue.0 c.in_default-happen.ensures.ok)
+    (at-queue (λ k (setup : Setup). Is (At k (Ticks c.args.node.0))) c.args.queue c.requires.queue.0 c.in_ok-happen.ensures.ok)
 
-pub returns-in-Err-happen-clause-err : goal.returns-in-Err-happen-clause-err
-returns-in-Err-happen-clause-err g c =
-    up-gave_up {Rule = λ (setup : Setup). Is (At c.args.queue.0 (Ticks c.args.node.0))} c.args.node.0
+pub returns-in_err-happen-clause-err : goal.returns-in_err-happen-clause-err
+returns-in_err-happen-clause-err g c =
+    at_exit _ _ c.from_residual-in_err-happen.ensures.1 (up-gave_up {Rule = λ (setup : Setup). Is (At c.args.queue.0 (Ticks c.args.node.0))} c.args.node.0
     (λ setup d st. sym c.if-not-up.false ∙ c.is_up-up.ensures setup d st)
-    (at-queue_gave_up (λ k (setup : Setup). Is (At k (Ticks c.args.node.0))) c.args.queue c.requires.queue.0 c.in-Err-happen.ensures.err)
+    (at-queue_gave_up (λ k (setup : Setup). Is (At k (Ticks c.args.node.0))) c.args.queue c.requires.queue.0 c.in_err-happen.ensures.err))
