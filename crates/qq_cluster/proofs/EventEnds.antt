@@ -1,4 +1,4 @@
--- What stands at its end where a queue of the nodes refuses what is event_of of it.
+-- What stands at its end where a queue of the nodes refuses an event.
 use Rattle.std.proofs.Common.{◌+◌, ℕ, length, sym, subst}
 use Rattle.std.proofs.lemmas.Option.{slice_get_within}
 use Rattle.qq_base.specs.Ids.{client}

@@ -1,4 +1,4 @@
--- Takers are event_of, and their verdicts are followed.
+-- Takers are asked, and their verdicts are followed.
 use Rattle.std.proofs.Common.{◌≡◌, ◌<◌, ◌+◌, ℕ, zero, suc, true, List, [], ◌∷◌, ◌++◌, Option, Some, None, get_or, length, refl, sym, ap, ◌∙◌, subst}
 use Rattle.std.specs.List.{AllByRecursion}
 use Rattle.std.specs.Prelude.{nat_eq, slice_get, slice_set}

@@ -1,4 +1,4 @@
--- One queue does what is event_of of it.
+-- Something happens to one queue.
 use Rattle.std.proofs.Common.{◌≡◌, ◌≢◌, ◌⊎◌, ◌<◌, ◌+◌, ℕ, zero, suc, Bool, true, false, cond, List, [], ◌∷◌, ◌++◌, Some, None, get_or, length, map, refl, sym, ap, ◌∙◌, subst, inl, inr, arith, append-nil}
 use Rattle.std.specs.Prelude.{nat_eq, slice_get, slice_set}
 use Rattle.std.specs.List.{AllByRecursion, flat_map}
@@ -214,7 +214,7 @@ module _ {D : Type 0} {facts : DiskFacts D} where
               }
 
 module _ {D : Type 0} {facts : DiskFacts D} where
-  -- a queue that is active does what is event_of of it
+  -- something happens to a queue that is active
   pub served-at : (event : Event) (at : ℕ) (old new : Held D) (before later : Outcome)
       → touched event ≡ None → is_in at old.active ≡ true → new ≡ record old { queues = new.queues }
       → DoesAt event (standings old.sessions) at old.queues.items new.queues.items before later

@@ -360,7 +360,7 @@ module _ {D : Type 0} {facts : DiskFacts D} where
       (sym (busy setup c r st)) allowed))
       (λ setup c events others one other. one others other)
 
-  -- a pump is to be event_of for
+  -- a pump is to be asked for
   pub not-pumped : (held : Held D) (outcome : Outcome) → held.auto ≡ false
       → Served facts IsPumped held held outcome outcome
   not-pumped held outcome off =

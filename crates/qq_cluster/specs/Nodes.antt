@@ -136,7 +136,7 @@ pub record Begins (Allows : Cluster → List ClusterEvent → Type 0) (c : Clust
     pub rest : List ClusterEvent
     pub allowed : Allows c (events ++ rest)
 
--- What the number is of: a queue that refuses what is event_of of it; or a node's log, on whose disk a file is too long with
+-- What the number is of: a queue that refuses what is asked of it; or a node's log, on whose disk a file is too long with
 -- the first of the ops that wait there, or has the last number that there is.
 pub data NumberAt {D : Type 0} (facts : DiskFacts D) (held : Held D) (number : ℕ) : Type 0 where
   InQueue : (at : ℕ) (event : QueueEvent) → IsRefusedAt event at held.queues.items (Spent number)

@@ -1,4 +1,4 @@
-//! Takers are event_of about what was handed out.
+//! Takers are asked about what was handed out.
 ghost use Rattle.std.specs.Prelude.{◌≡◌, ◌<◌, ◌+◌, true, length, IfErr, IfOk, IfSome, IsOkUnless, OnOk};
 ghost use Rattle.qq_cluster_model.specs.Cluster.{Cluster, Setup};
 ghost use Rattle.qq_cluster_model.specs.Rules.{IsNextJudged, IsTold, Tells};
@@ -28,7 +28,7 @@ impl<D: NodeDisk> Nodes<D> {
         self.queues[at].untold_count()
     }
 
-    // The taker of the first delivery that waits is event_of, where one does. The answer is the command that follows.
+    // The taker of the first delivery that waits is asked, where one does. The answer is the command that follows.
     fn judge<T: Taker>(
         &mut self,
         alloc: Global,
@@ -72,7 +72,7 @@ impl<D: NodeDisk> Nodes<D> {
         }
     }
 
-    // The taker of the first delivery that waits is event_of, where one does, and its verdict is followed.
+    // The taker of the first delivery that waits is asked, where one does, and its verdict is followed.
     fn judge_next<T: Taker>(
         &mut self,
         alloc: Global,
@@ -93,7 +93,7 @@ impl<D: NodeDisk> Nodes<D> {
         Ok(())
     }
 
-    // Takers are event_of until no delivery of a queue waits.
+    // Takers are asked until no delivery of a queue waits.
     fn judge_each<T: Taker>(
         &mut self,
         alloc: Global,
@@ -115,7 +115,7 @@ impl<D: NodeDisk> Nodes<D> {
         Ok(())
     }
 
-    // A queue that is active does what is event_of of it, and takers are event_of about what was handed out then.
+    // A queue that is active does what is asked of it, and takers are asked about what was handed out then.
     pub(crate) fn tell_active<T: Taker>(
         &mut self,
         alloc: Global,

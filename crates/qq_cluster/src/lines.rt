@@ -157,7 +157,7 @@ impl<D: NodeDisk> Nodes<D> {
         Ok(())
     }
 
-    /// A queue's member on a node learns what is synced of it, and takers are event_of about what that hands out; of a
+    /// A queue's member on a node learns what is synced of it, and takers are asked about what that hands out; of a
     /// node that is down that is said.
     pub fn notice<T: Taker>(
         &mut self,

@@ -127,7 +127,7 @@ impl<D: NodeDisk> Nodes<D> {
         self.active.add(at)
     }
 
-    // A queue that is active does what is event_of of it.
+    // Something happens to a queue that is active.
     #[inline(always)]
     pub(crate) fn happen_active<T: Taker>(
         &mut self,
@@ -150,7 +150,7 @@ impl<D: NodeDisk> Nodes<D> {
         happen_in(&mut self.queues, alloc, &self.sessions, at, event, told)
     }
 
-    // A queue does what is event_of of it.
+    // Something happens to a queue.
     pub(crate) fn happen<T: Taker>(
         &mut self,
         alloc: Global,

@@ -239,7 +239,7 @@ impl<D: NodeDisk> Nodes<D> {
         Ok(())
     }
 
-    // A pump follows, unless it is to be event_of for.
+    // A pump follows, unless it is to be asked for.
     pub(crate) fn pumped<T: Taker>(
         &mut self,
         alloc: Global,
