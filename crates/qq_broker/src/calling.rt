@@ -180,16 +180,10 @@ fn hear_call<D: NodeDisk, T: Taker>(
         told.old told.new) }
     ensures err { IfErr result (StopsCall D.facts session body queue.0 nodes.old) }
 {
-    let asked = match hand(alloc, nodes, queue, session, body, told) {
-        Ok(asked) => asked,
-        Err(memory) => return Err(memory),
-    };
+    let asked = hand(alloc, nodes, queue, session, body, told)?;
     let outcome = outcome_heard(asked.as_slice());
     drop(asked);
-    let list = match pump(alloc, nodes, told) {
-        Ok(list) => list,
-        Err(memory) => return Err(memory),
-    };
+    let list = pump(alloc, nodes, told)?;
     let idle = nodes.is_idle();
     match answer(alloc, queue, outcome, pump_outcome(idle), list) {
         Ok(called) => Ok(called),

@@ -107,9 +107,7 @@ fn play_lines<Y: Yard, T: Taker>(
     ensures later { Y.faults yard.old ≤ Y.faults yard.new }
 {
     'lines: for line in lines {
-        if let Err(stop) = play_line::<Y, T>(alloc, setup, nodes, yard, told, play, line) {
-            return Err(stop);
-        }
+        play_line::<Y, T>(alloc, setup, nodes, yard, told, play, line)?;
     }
     Ok(())
 }
@@ -198,9 +196,7 @@ pub(crate) fn play_parts<Y: Yard, T: Taker>(
     ensures later { Y.faults yard.old ≤ Y.faults yard.new }
 {
     'parts: for part in parts {
-        if let Err(stop) = play_part::<Y, T>(alloc, setup, nodes, yard, told, play, *part) {
-            return Err(stop);
-        }
+        play_part::<Y, T>(alloc, setup, nodes, yard, told, play, *part)?;
     }
     Ok(())
 }

@@ -54,13 +54,9 @@ fn add_audits<D: NodeDisk>(
     let rows = setup.queues.as_slice();
     for row in rows {
         let mut text = Vec::new(alloc);
-        if let Err(cause) = nodes.audit_text(alloc, row.args.queue, &mut text) {
-            return Err(cause);
-        }
+        nodes.audit_text(alloc, row.args.queue, &mut text)?;
         digest.update(text.as_slice());
-        if let Err(cause) = nodes.count_rows(alloc, row.args.queue, tally) {
-            return Err(cause);
-        }
+        nodes.count_rows(alloc, row.args.queue, tally)?;
     }
     Ok(())
 }
@@ -87,9 +83,7 @@ fn finish<D: NodeDisk>(
     } = play;
     drop(drill);
     let mut tally = Tally::new();
-    if let Err(cause) = add_audits(alloc, setup, nodes, &mut digest, &mut tally) {
-        return Err(cause);
-    }
+    add_audits(alloc, setup, nodes, &mut digest, &mut tally)?;
     summary(
         alloc,
         number,

@@ -110,10 +110,7 @@ fn begin<Y: Yard>(
     ensures cause { IfErr result (IsYardEnding (Y.faults yard.old) (Y.faults yard.new)) }
     ensures later { Y.faults yard.old ≤ Y.faults yard.new }
 {
-    let mut disks = match disks_of(alloc, setup.nodes, path_of(root), yard) {
-        Ok(disks) => disks,
-        Err(ending) => return Err(ending),
-    };
+    let mut disks = disks_of(alloc, setup.nodes, path_of(root), yard)?;
     match begin_over(alloc, setup, &mut disks) {
         Ok(nodes) => Ok(nodes),
         Err(_) => Err(Ending::no_memory()),
@@ -144,10 +141,7 @@ pub fn open<Y: Yard, T: Taker>(
     ensures later { Y.faults yard.old ≤ Y.faults yard.new }
 {
     clusters_begin_with_new_logs();
-    let mut nodes = match begin(alloc, setup, root, yard) {
-        Ok(nodes) => nodes,
-        Err(ending) => return Err(ending),
-    };
+    let mut nodes = begin(alloc, setup, root, yard)?;
     match open_nodes(&mut nodes, alloc, told) {
         Ok(some) => {
             if some {

@@ -56,10 +56,7 @@ fn answer<Y: Yard, T: Taker>(
     ensures same { IfErr result (λ stop. IsRefusedBy stop → told.new ≡ told.old) }
     ensures later { Y.faults yard.old ≤ Y.faults yard.new }
 {
-    let said = match ask(alloc, setup, before, line) {
-        Ok(said) => said,
-        Err(stop) => return Err(stop),
-    };
+    let said = ask(alloc, setup, before, line)?;
     match serve::<Y, T>(alloc, setup, nodes, yard, said, told) {
         Ok(()) => Ok(()),
         Err(fault) => Err(step_stop(alloc, setup, before + 1, fault)),

@@ -76,9 +76,7 @@ fn crash_first<Y: Yard>(
     ensures cause { HasCause IsYardCaused (Y.faults yard.old) (Y.faults yard.new) result }
 {
     'nodes: for before in 0..count {
-        if let Err(fault) = crash_one(alloc, nodes, yard, NodeId(before + 1), image) {
-            return Err(fault);
-        }
+        crash_one(alloc, nodes, yard, NodeId(before + 1), image)?;
     }
     Ok(())
 }

@@ -53,9 +53,7 @@ fn open_each<D: NodeDisk, T: Taker>(
     let count = nodes.nodes.len();
     'nodes: for at in 0..count {
         let node = NodeId(at as u8 + 1);
-        if let Err(fault) = recover_node(nodes, alloc, node, true, told) {
-            return Err(fault);
-        }
+        recover_node(nodes, alloc, node, true, told)?;
         let up = settle(nodes, at);
         some = has_opened(some, up);
     }
@@ -82,10 +80,7 @@ pub fn open<D: NodeDisk, T: Taker>(
         MayNotOpen D.facts rows nodes.old nodes.new fault) }
 {
     a_queue_may_begin_with_new_logs();
-    let some = match open_each(nodes, alloc, told) {
-        Ok(some) => some,
-        Err(fault) => return Err(fault),
-    };
+    let some = open_each(nodes, alloc, told)?;
     if let Some(at) = first_lost(nodes) {
         return Err(lost(nodes, at));
     }

@@ -41,9 +41,7 @@ pub fn reopen<D: NodeDisk, T: Taker>(
         told.old told.new) }
     ensures err { IfErr result (Refuses D.facts all_nodes IsOpening nodes.old nodes.new told.old) }
 {
-    if let Err(fault) = restart_each(nodes, alloc, told) {
-        return Err(fault);
-    }
+    restart_each(nodes, alloc, told)?;
     let some = has_up(nodes);
     if let Err(memory) = nodes.tick_each(alloc, told) {
         return Err(RestartFault::Memory(memory));

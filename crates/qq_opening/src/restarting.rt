@@ -95,9 +95,7 @@ pub fn restart_each<D: NodeDisk, T: Taker>(
     let count = nodes.nodes.len();
     'nodes: for at in 0..count {
         let node = nodes.node_id(at);
-        if let Err(fault) = restart(nodes, alloc, node, told) {
-            return Err(fault);
-        }
+        restart(nodes, alloc, node, told)?;
     }
     Ok(())
 }

@@ -102,9 +102,7 @@ fn go_on<D: NodeDisk>(
     let at = node.0 as usize - 1;
     let own = &nodes.nodes[at];
     let handed = handed_of(opens, own.empty);
-    if let Err(fault) = take_up_each(&mut nodes.queues, alloc, node, handed, &own.queues, lanes) {
-        return Err(fault);
-    }
+    take_up_each(&mut nodes.queues, alloc, node, handed, &own.queues, lanes)?;
     mark_in(&mut nodes.nodes, at, true);
     Ok(())
 }

@@ -161,9 +161,7 @@ fn take_up(
     ensures cause { IfErr result (IsTakeCaused node.0 handed lane queue.old) }
 {
     let log = log_of_lane(alloc, id, lane);
-    if let Err(fault) = check_log(queue, node, handed, &log) {
-        return Err(fault);
-    }
+    check_log(queue, node, handed, &log)?;
     match queue.find(alloc, node, log) {
         Ok(()) => Ok(()),
         Err(fault) => Err(fault),
