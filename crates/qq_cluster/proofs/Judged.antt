@@ -14,7 +14,7 @@ use Rattle.qq_cluster_model.specs.Taking.{command_for}
 use Rattle.qq_queue.specs.ClusterQueue.{IsSameQueue}
 use Rattle.qq_queue.specs.Judging.{claim_by}
 use Rattle.qq_queue.specs.Members.{AreSound}
-use Rattle.qq_queue.specs.Sessions.{standings}
+use Rattle.qq_queue.specs.Sessions.{Standings, standings}
 use Rattle.qq_queue.specs.declared.cluster_queue.ClusterQueue.{ClusterQueue}
 use Rattle.qq_queue.specs.declared.claim.Claim.{Claim}
 use Rattle.qq_cluster.specs.Active.{is_in}
@@ -25,11 +25,11 @@ use Rattle.qq_cluster.proofs.OneQueue.{served-at}
 use Rattle.qq_cluster.proofs.Stands.{served-still, served-weaker}
 
 -- the queue at an index
-pub judged-at : (claim : Option Claim) (at : ℕ) (olds : List ClusterQueue) (d new : ClusterQueue)
+pub judged-at : (claim : Option Claim) (sessions : Standings) (at : ℕ) (olds : List ClusterQueue) (d new : ClusterQueue)
     (before after : Outcome) → at < length olds → AreSound new.group → IsSameQueue (get_or olds at d) new
-    → HasJudged (nat_eq at 0) (get_or olds at d).untold (get_or olds at d) new before after claim
-    → JudgesAt claim at olds (slice_set olds at new) before after
-judged-at claim at olds d new before after lt sound same judged = record {
+    → HasJudged (nat_eq at 0) sessions (get_or olds at d).untold (get_or olds at d) new before after claim
+    → JudgesAt claim sessions at olds (slice_set olds at new) before after
+judged-at claim sessions at olds d new before after lt sound same judged = record {
   old = get_or olds at d;
   new = new;
   here = slice_get-get_or olds at d lt;
@@ -91,7 +91,7 @@ module _ {D : Type 0} {facts : DiskFacts D} where
 module _ {D : Type 0} {facts : DiskFacts D} where
   pub served-judged : (claim : Option Claim) (at : ℕ) (old new : Held D) (before later : Outcome)
       → is_in at old.active ≡ true → new ≡ record old { queues = new.queues }
-      → JudgesAt claim at old.queues.items new.queues.items before later
+      → JudgesAt claim (standings old.sessions) at old.queues.items new.queues.items before later
       → Served facts (λ setup. IsClaimedBy claim (at + 1)) old new before later
   served-judged claim at old new before later active same judges = by judges.old.untold refl judges.judged
     where
@@ -100,7 +100,7 @@ module _ {D : Type 0} {facts : DiskFacts D} where
       waits untold is setup c st = sym is ∙ sym (st.queues at judges.old judges.here).stands.untold
 
       by : (untold : List Handed) → judges.old.untold ≡ untold
-          → HasJudged (nat_eq at 0) untold judges.old judges.new before later claim
+          → HasJudged (nat_eq at 0) (standings old.sessions) untold judges.old judges.new before later claim
           → Served facts (λ setup. IsClaimedBy claim (at + 1)) old new before later
       by [] is none =
           subst (λ (o : Outcome). Served facts (λ setup. IsClaimedBy claim (at + 1)) old new before o) (sym none.1)
@@ -121,7 +121,7 @@ module _ {D : Type 0} {facts : DiskFacts D} where
             is = judges.is;
             sound = judges.sound;
             same = judges.same;
-            does = judged.does (standings old.sessions);
+            does = judged.does;
           }))
           (λ setup c events r st allowed.
           subst (λ (untold : List Handed). IsClaimedWhere claim (at + 1) untold events)

@@ -104,7 +104,8 @@ first-at setup at one = by at ∙ ap (nat_eq (at + 1)) (sym one)
   where
     by : (k : ℕ) → nat_eq k 0 ≡ nat_eq (k + 1) 1
     by zero = refl
-    by (suc k) = sym (ne_eqb (suc k + 1) 1 (λ e. absurd (omega (arith, e))))
+    by (suc k) =
+        ne_eqb (suc k) 0 (λ e. absurd (omega (arith, e))) ∙ sym (ne_eqb (suc k + 1) 1 (λ e. absurd (omega (arith, e))))
 
 pub text-at : (setup : Setup) (sessions : Standings) (c : Cluster) (event : Event) (at : ℕ) (d : ClusterQueue)
     → setup.first ≡ 1 → IsQueueOf setup sessions c (at + 1) d

@@ -1,8 +1,11 @@
 -- What is told of what a queue shows.
-use Rattle.std.proofs.Common.{◌≡◌, ℕ, Bool, true, false, cond, List, [], ◌∷◌, ◌++◌, Option, Some, None, map, refl, sym, ap, ◌∙◌, subst, append_assoc, append-nil}
-use Rattle.std.specs.List.{AllByRecursion, flat_map}
+use Rattle.std.proofs.Common.{◌≡◌, ℕ, zero, suc, Bool, true, false, List, [], ◌∷◌, ◌++◌, Option, Some, None, map, refl, sym, ap, ◌∙◌, append_assoc, append-nil}
+use Rattle.std.specs.Prelude.{slice_get}
+use Rattle.std.specs.List.{AllByRecursion, flat_map, slice_set}
+use Rattle.std.specs.Option.{option_map_or}
 use Rattle.std.proofs.lemmas.Bool.{cond_both}
 use Rattle.qq_base.proofs.Lists.{AllByRecursion-append}
+use Rattle.qq_entry.specs.declared.answer.Delivery.{Delivery}
 use Rattle.qq_entry.specs.declared.audit.AuditRow.{AuditRow}
 use Rattle.qq_entry.specs.declared.command.Command.{Command}
 use Rattle.qq_session.specs.Clients.{may_hand, printed}
@@ -10,13 +13,13 @@ use Rattle.qq_session.specs.Shown.{said_of}
 use Rattle.qq_session.specs.declared.shown.Shown.{Shown}
 use Rattle.qq_session.specs.declared.shown.Shown.TheVariants.{Answered, Delivered, NoLeader, WindowFull, HasEnded, NotTaken, Attached, IsBusy, Taken, Dropped}
 use Rattle.qq_taker.specs.Seats.{leaving, taker_of}
-use Rattle.qq_taker.specs.Takers.{Takers, judge}
+use Rattle.qq_taker.specs.Takers.{Held, Free, Given, Gone, Takers, change_held, is_given, is_given_by, judge, look}
 use Rattle.qq_taker.specs.declared.handed.Handed.{Handed}
 use Rattle.qq_taker.specs.declared.seats.Leaving.{Leaving}
 use Rattle.qq_taker.specs.declared.seats.Seat.{Seat}
 use Rattle.qq_taker.specs.declared.taker.Verdict.{Verdict}
 use Rattle.qq_script.specs.Shown.{shown_text}
-use Rattle.qq_cluster_model.specs.Outcome.{Outcome, hear_some, heard_by, sees, sees_all, turns}
+use Rattle.qq_cluster_model.specs.Outcome.{Outcome, hear_some, heard_by, sees_all, turns}
 use Rattle.qq_cluster_model.specs.Queue.{Queue, Event, Submits, Judges, Resends, Downs, attached, consumer_of, happens, has_leader, handed_out, offered, rows_told, said, seats_after, told}
 use Rattle.qq_cluster_model.specs.Taking.{answers, delivered, dropped_by, judged, judged_by, leaving_at, seated_by, told_of, told_then}
 use Rattle.qq_queue.specs.ClusterQueue.{Stands as IsQueue}
@@ -135,6 +138,30 @@ said-untaken q (Copy place) may = told-untaken q (event_of (Copy place))
 
 -- ---- verdicts
 
+-- one that isn't there, or that no consumer was given, stays as it is whatever its verdict would be
+unlooked : (delivery : Delivery) (verdict : Verdict) (at : ℕ) (held : List Held)
+    → option_map_or is_given_by (slice_get held at) false ≡ false
+    → change_held (suc at) (look delivery verdict) held ≡ held
+unlooked delivery verdict at [] free = refl
+unlooked delivery verdict zero (Free seen ∷ held) free = refl
+unlooked delivery verdict zero (Given seen ∷ held) free = absurd (let wrong : true ≡ false = free in cc)
+unlooked delivery verdict zero (Gone ∷ held) free = refl
+unlooked delivery verdict (suc at) (one ∷ held) free =
+    by (slice_get held at) ∙ ap (λ (more : List Held). one ∷ more) (unlooked delivery verdict at held free)
+  where
+    by : (o : Option Held)
+        → option_map_or (λ (h : Held). one ∷ slice_set held at (look delivery verdict h)) o (one ∷ held)
+        ≡ one ∷ option_map_or (λ (h : Held). slice_set held at (look delivery verdict h)) o held
+    by None = refl
+    by (Some h) = refl
+
+pub unasked-stays : (number : ℕ) (delivery : Delivery) (verdict : Verdict) (all : Takers) → is_given number all ≡ false
+    → judge number delivery verdict all ≡ all
+unasked-stays zero delivery verdict all free = refl
+unasked-stays (suc at) delivery verdict all free =
+    ap (λ (held : List Held). let a : Takers = record { held = held; heard = all.heard } in a)
+    (unlooked delivery verdict at all.held free)
+
 -- the taker was asked before its verdict is told
 pub judged-takers : (first : Bool) (place : ℕ) (name : List ℕ) (seats : List Seat) (verdict : Verdict) (h : Handed)
     (more : List Handed) (o : Outcome)
@@ -213,25 +240,26 @@ judged-shows first sessions old new h more verdict place name shown list before 
     )
 
 -- of whatever waits first
-pub has-judged : (first : Bool) (old new : ClusterQueue) (untold : List Handed) (verdict : Verdict)
-    (claim : Option Claim) (place : ℕ) (name : List ℕ) (shown list : List Shown) (before mid after : Outcome)
-    → old.untold ≡ untold → IsAsked old.seats untold (Some verdict) before mid → claim ≡ claim_first verdict untold
-    → ((sessions : Standings) (q : Queue) → IsQueue sessions old q
+pub has-judged : (first : Bool) (sessions : Standings) (old new : ClusterQueue) (untold : List Handed)
+    (verdict : Verdict) (claim : Option Claim) (place : ℕ) (name : List ℕ) (shown list : List Shown)
+    (before mid after : Outcome) → old.untold ≡ untold → IsAsked old.seats untold (Some verdict) before mid
+    → claim ≡ claim_first verdict untold
+    → ((q : Queue) → IsQueue sessions old q
     → IsQueue sessions new (happens q (Judges verdict)) × (shown ≡ said q (Judges verdict)))
     → list ≡ shown → place ≡ old.args.queue.0 → name ≡ old.name → after ≡ tell_all first place name list mid
-    → HasJudged first untold old new before after claim
-has-judged first old new [] verdict claim place name shown list before mid after waits asked claimed does listed placed
-    named told' =
-    absurd (let n : ◌≡◌ {A = Option Verdict} (Some verdict) None = asked.0 in cc)
-has-judged first old new (h ∷ more) verdict claim place name shown list before mid after waits asked claimed does
+    → HasJudged first sessions untold old new before after claim
+has-judged first sessions old new [] verdict claim place name shown list before mid after waits asked claimed does
     listed placed named told' =
+    absurd (let n : ◌≡◌ {A = Option Verdict} (Some verdict) None = asked.0 in cc)
+has-judged first sessions old new (h ∷ more) verdict claim place name shown list before mid after waits asked claimed
+    does listed placed named told' =
     let same : asked.0 ≡ verdict =
     (let e : ◌≡◌ {A = Option Verdict} (Some verdict) (Some asked.0) = asked.1.0 in cc) in
     record {
       verdict = verdict;
-      does = λ sessions.
-          judged-shows first sessions old new h more verdict place name shown list before after waits (does sessions)
-          listed placed named
+      does =
+          judged-shows first sessions old new h more verdict place name shown list before after waits does listed placed
+          named
           (told' ∙ ap (tell_all first place name list) (asked.1.1
           ∙ ap (λ (v : Verdict). let o : Outcome = record before {
             takers = asked_by (taker_of h.consumer old.seats) h.delivery v before.takers;
@@ -240,9 +268,9 @@ has-judged first old new (h ∷ more) verdict claim place name shown list before
     }
 
 -- nothing waited
-pub judged-none : (first : Bool) (old : ClusterQueue) (untold : List Handed) (answer : Option Verdict)
-    (before after : Outcome) → answer ≡ None → IsAsked old.seats untold answer before after
-    → HasJudged first untold old old before after None
-judged-none first old [] answer before after none' asked = (refl, asked.1, refl)
-judged-none first old (h ∷ more) answer before after none' asked =
+pub judged-none : (first : Bool) (sessions : Standings) (old : ClusterQueue) (untold : List Handed)
+    (answer : Option Verdict) (before after : Outcome) → answer ≡ None → IsAsked old.seats untold answer before after
+    → HasJudged first sessions untold old old before after None
+judged-none first sessions old [] answer before after none' asked = (refl, asked.1, refl)
+judged-none first sessions old (h ∷ more) answer before after none' asked =
     absurd (let e : ◌≡◌ {A = Option Verdict} None (Some asked.0) = sym none' ∙ asked.1.0 in cc)

@@ -33,27 +33,28 @@ IsAsked seats (h ∷ more) answer before after =
     × (after ≡ record before { takers = asked_by (taker_of h.consumer seats) h.delivery verdict before.takers }))
 
 -- the delivery has a verdict, and this is what follows
-pub record IsJudged (first : Bool) (h : Handed) (old new : ClusterQueue) (before after : Outcome) (claim : Option Claim)
-    : Type 0 where
+pub record IsJudged (first : Bool) (sessions : Standings) (h : Handed) (old new : ClusterQueue)
+    (before after : Outcome) (claim : Option Claim) : Type 0 where
   pub verdict : Verdict
-  pub does : (sessions : Standings) → Does first (Judges verdict) sessions old new before after
+  pub does : Does first (Judges verdict) sessions old new before after
   pub claim_is : claim ≡ claim_of verdict h
 
 -- of the first delivery that waits, where one does
-abbrev pub HasJudged : Bool → List Handed → ClusterQueue → ClusterQueue → Outcome → Outcome → Option Claim → Type 0
-HasJudged first [] old new before after claim = (new ≡ old) × (after ≡ before) × (claim ≡ None)
-HasJudged first (h ∷ more) old new before after claim = IsJudged first h old new before after claim
+abbrev pub HasJudged : Bool → Standings → List Handed → ClusterQueue → ClusterQueue → Outcome → Outcome
+    → Option Claim → Type 0
+HasJudged first sessions [] old new before after claim = (new ≡ old) × (after ≡ before) × (claim ≡ None)
+HasJudged first sessions (h ∷ more) old new before after claim = IsJudged first sessions h old new before after claim
 
 -- the first delivery that waits at the queue at an index was judged, and this command follows
-pub record JudgesAt (claim : Option Claim) (at : ℕ) (olds news : List ClusterQueue) (before after : Outcome)
-    : Type 0 where
+pub record JudgesAt (claim : Option Claim) (sessions : Standings) (at : ℕ) (olds news : List ClusterQueue)
+    (before after : Outcome) : Type 0 where
   pub old : ClusterQueue
   pub new : ClusterQueue
   pub here : slice_get olds at ≡ Some old
   pub is : news ≡ slice_set olds at new
   pub sound : AreSound new.group
   pub same : IsSameQueue old new
-  pub judged : HasJudged (nat_eq at 0) old.untold old new before after claim
+  pub judged : HasJudged (nat_eq at 0) sessions old.untold old new before after claim
 
 -- ---- the rules
 

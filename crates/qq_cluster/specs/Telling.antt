@@ -1,5 +1,5 @@
 -- What comes of what a queue shows: a text grows by it, takers see what is for them, and who listens hears the rest.
-use Rattle.std.specs.Prelude.{◌≡◌, ℕ, List, [], ◌∷◌, ◌++◌, Bool, true, false}
+use Rattle.std.specs.Prelude.{◌≡◌, ℕ, List, [], ◌∷◌, ◌++◌, Bool}
 use Rattle.std.specs.List.{flat_map}
 use Rattle.qq_cluster_model.specs.Outcome.{Outcome, hear_some, heard_by, sees_all, turns}
 use Rattle.qq_cluster_model.specs.Queue.{Event, Queue, happens, said}

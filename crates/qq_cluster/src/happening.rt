@@ -111,7 +111,8 @@ fn judge_told<T: Taker>(
     ensures sound { AreSound queue.new.group }
     ensures same { IsSameQueue queue.old queue.new }
     ensures ok { IfOk result (λ claim.
-        HasJudged first queue.old.untold queue.old queue.new told.old told.new claim) }
+        HasJudged first (standings sessions.now) queue.old.untold queue.old queue.new
+        told.old told.new claim) }
     ensures may { IfOk result (λ claim. IfSome claim MayClaim) }
     ensures want { IsOkUnless result Memory.Want }
 {
@@ -136,7 +137,8 @@ pub(crate) fn judge_at<T: Taker>(
 ) -> Result<Option<Claim>, Memory>
     requires place { at < length queues.old }
     requires sound { All (λ (d : ClusterQueue). AreSound d.group) queues.old }
-    ensures ok { IfOk result (λ claim. JudgesAt claim at queues.old queues.new told.old told.new) }
+    ensures ok { IfOk result (λ claim. JudgesAt claim (standings sessions.now) at
+        queues.old queues.new told.old told.new) }
     ensures may { IfOk result (λ claim. IfSome claim MayClaim) }
     ensures want { IsOkUnless result Memory.Want }
 {
@@ -154,7 +156,8 @@ pub(crate) fn judge_in<T: Taker>(
     requires place { at < length queues.old.items }
     requires sound { All (λ (d : ClusterQueue). AreSound d.group) queues.old.items }
     ensures ok { IfOk result (λ claim.
-        JudgesAt claim at queues.old.items queues.new.items told.old told.new) }
+        JudgesAt claim (standings sessions.now) at queues.old.items queues.new.items
+        told.old told.new) }
     ensures may { IfOk result (λ claim. IfSome claim MayClaim) }
     ensures want { IsOkUnless result Memory.Want }
 {

@@ -228,9 +228,9 @@ impl<T: Taker> Told<T> {
         }) }
         ensures want { IsOkUnless result Memory.Want }
     {
-        match self.desk.offer(number, delivery)? {
-            Some(verdict) => Ok(verdict),
-            None => Ok(Verdict::Keep),
-        }
+        let Some(verdict) = self.desk.offer(number, delivery)? else {
+            return Ok(Verdict::Keep);
+        };
+        Ok(verdict)
     }
 }

@@ -38,7 +38,8 @@ returns-clause-ok g c =
 
 pub returns-in_err-crash_node-clause-cause : goal.returns-in_err-crash_node-clause-cause
 returns-in_err-crash_node-clause-cause g c =
-    at_exit _ _ c.from_residual.ensures.1 (cause-later _ _ _ c.in_err-crash_node.field-0.0 c.nodes.invariant.1 c.in_err-crash_node.ensures.cause)
+    let said = cause-later _ _ _ c.in_err-crash_node.field-0.0 c.nodes.invariant.1 c.in_err-crash_node.ensures.cause in
+    record { later = said.later; cause = at_exit _ _ c.from_residual.ensures.1 said.cause }
 
 pub returns-clause-cause : goal.returns-clause-cause
 returns-clause-cause g c = cause-none _ _ c.nodes.invariant.1

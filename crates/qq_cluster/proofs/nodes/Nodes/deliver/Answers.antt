@@ -14,14 +14,15 @@ returns-then-message-eq0-clause-ok g c =
     no-message c.args.message IsDeliver c.args.queue.0 (omega arith) (λ d events said. said)
     c.in_ok-say_no_such.ensures.ok
 
-pub returns-in-Err-say_no_such-clause-err : goal.returns-in-Err-say_no_such-clause-err
-returns-in-Err-say_no_such-clause-err g c =
-    gave_up-same c.args.self.now c.args.self.now c.in-Err-say_no_such.cause refl c.in-Err-say_no_such.ensures.want
+pub returns-in_err-say_no_such-2-clause-err : goal.returns-in_err-say_no_such-2-clause-err
+returns-in_err-say_no_such-2-clause-err g c =
+    at_exit _ _ c.from_residual-in_err-say_no_such-2.ensures.1
+    (gave_up-same c.args.self.now c.args.self.now c.in_err-say_no_such-2.field-0.0 refl c.in_err-say_no_such-2.ensures.want)
 
-pub returns-in_default-receiver-clause-ok : goal.returns-in_default-receiver-clause-ok
-returns-in_default-receiver-clause-ok g c =
-    delivers-none c.args.queue c.args.message c.receiver.result c.requires.queue.0 (omega arith) c.in_default-receiver.is
-    c.receiver.ensures.receiver c.in_default-say_no_such.ensures.ok
+pub returns-in_default-clause-ok : goal.returns-in_default-clause-ok
+returns-in_default-clause-ok g c =
+    delivers-none c.args.queue c.args.message c.receiver.result c.requires.queue.0 (omega arith) c.in_default.is
+    c.receiver.ensures.receiver c.in_ok-say_no_such-2.ensures.ok
 
 pub returns-in_err-deliver_to-clause-err : goal.returns-in_err-deliver_to-clause-err
 returns-in_err-deliver_to-clause-err g c =

@@ -1,5 +1,6 @@
-use Rattle.std.proofs.Common.{◌≡◌, ℕ, List, ◌-◌, ◌∙◌, ap, sym}
+use Rattle.std.proofs.Common.{◌≡◌, ℕ, List, ◌-◌, ◌++◌, ◌∙◌, ap, sym}
 use Rattle.std.proofs.lemmas.Result.{on_ok_weaker}
+use Rattle.qq_cluster_model.specs.Texts.{state_line}
 use Rattle.qq_cluster.specs.Showing.{has_queue, with_line}
 use Rattle.qq_cluster.proofs.Items.{item-here}
 use Rattle.qq_cluster.proofs.LineRules.{queue-index}
@@ -31,4 +32,7 @@ returns-clause-ok g c =
     c.node_id-node.ensures
     (λ sessions q st. said
     ∙ ap (λ (l : List ℕ). with_line l c.args.told.now)
-    (c.as_slice.ensures.value ∙ c.in_ok-state_text.ensures.ok sessions q st))) c.write.ensures.ok
+    (c.as_slice.ensures.value ∙ c.in_ok-state_text.ensures.ok sessions q st
+    ∙ ap (λ (l : List ℕ). l
+    ++ state_line c.index-2.result.now.name c.node_id-node.result.0 (q.group.seat c.node_id-node.result.0).server)
+    c.new-line.ensures.items))) c.write.ensures.ok

@@ -36,23 +36,23 @@ fail-requires-clause-sound g c =
     c.mark_synced-in-NoFile.new.self.queues.items (queues-sound c.requires.serve)
     c.mark_synced-in-NoFile.ensures.turns
 
-pub returns-in_err-fail-clause-err : goal.returns-in_err-fail-clause-err
-returns-in_err-fail-clause-err g c =
-    at_exit _ _ c.from_residual-in_err-fail.ensures.1 (sync-wants c.args.node.0 c.args.self.now c.sync_in.new.nodes c.requires.node.0 c.requires.node.1
+pub returns-in_err-fail-in-NoFile-clause-err : goal.returns-in_err-fail-in-NoFile-clause-err
+returns-in_err-fail-in-NoFile-clause-err g c =
+    at_exit _ _ c.from_residual-in_err-fail-in-NoFile.ensures.1 (sync-wants c.args.node.0 c.args.self.now c.sync_in.new.nodes c.requires.node.0 c.requires.node.1
     (λ setup d st. sym c.if-not-up.false ∙ c.is_up-up.ensures setup d st)
-    c.in_ok-outcome.outcome c.fail.new.self c.in_err-fail.field-0.0 c.in_ok-outcome.ensures.ok
-    (nodes-as c.fail.new.self c.mark_synced-in-NoFile.new.self c.in_err-fail.ensures.err
-    ∙ nodes-as c.mark_synced-in-NoFile.new.self _ c.mark_synced-in-NoFile.ensures.same) c.in_err-fail.ensures.want)
+    c.in_ok-outcome.outcome c.fail.new.self c.in_err-fail-in-NoFile.field-0.0 c.in_ok-outcome.ensures.ok
+    (nodes-as c.fail.new.self c.mark_synced-in-NoFile.new.self c.in_err-fail-in-NoFile.ensures.err
+    ∙ nodes-as c.mark_synced-in-NoFile.new.self _ c.mark_synced-in-NoFile.ensures.same) c.in_err-fail-in-NoFile.ensures.want)
 
 pub fail-requires-in-Nothing-clause-sound : goal.fail-requires-in-Nothing-clause-sound
 fail-requires-in-Nothing-clause-sound g c = queues-sound c.requires.serve
 
-pub returns-in_err-fail-2-clause-err : goal.returns-in_err-fail-2-clause-err
-returns-in_err-fail-2-clause-err g c =
-    at_exit _ _ c.from_residual-in_err-fail-2.ensures.1 (sync-wants c.args.node.0 c.args.self.now c.sync_in.new.nodes c.requires.node.0 c.requires.node.1
+pub returns-in_err-fail-in-Nothing-clause-err : goal.returns-in_err-fail-in-Nothing-clause-err
+returns-in_err-fail-in-Nothing-clause-err g c =
+    at_exit _ _ c.from_residual-in_err-fail-in-Nothing.ensures.1 (sync-wants c.args.node.0 c.args.self.now c.sync_in.new.nodes c.requires.node.0 c.requires.node.1
     (λ setup d st. sym c.if-not-up.false ∙ c.is_up-up.ensures setup d st)
-    c.in_ok-outcome.outcome c.fail-in-Nothing.new.self c.in_err-fail-2.field-0.0 c.in_ok-outcome.ensures.ok
-    (nodes-as c.fail-in-Nothing.new.self _ c.in_err-fail-2.ensures.err) c.in_err-fail-2.ensures.want)
+    c.in_ok-outcome.outcome c.fail-in-Nothing.new.self c.in_err-fail-in-Nothing.field-0.0 c.in_ok-outcome.ensures.ok
+    (nodes-as c.fail-in-Nothing.new.self _ c.in_err-fail-in-Nothing.ensures.err) c.in_err-fail-in-Nothing.ensures.want)
 
 pub returns-in-Whole-clause-ok : goal.returns-in-Whole-clause-ok
 returns-in-Whole-clause-ok g c =
@@ -62,20 +62,20 @@ returns-in-Whole-clause-ok g c =
     (λ outcome. NodeTurns (Syncs g.D.NodeDisk.facts outcome) (c.args.node.0 - 1) c.args.self.now.nodes.items
     c.sync_in.new.nodes.items) c.in-Whole.is c.in_ok-outcome.ensures.ok) c.mark_synced.ensures
 
-pub returns-in_default-clause-ok : goal.returns-in_default-clause-ok
-returns-in_default-clause-ok g c =
+pub returns-in_ok-fail-in-NoFile-clause-ok : goal.returns-in_ok-fail-in-NoFile-clause-ok
+returns-in_ok-fail-in-NoFile-clause-ok g c =
     synced-failed c.args.node.0 c.args.self.now c.sync_in.new.nodes c.requires.node.0 c.requires.node.1
     (λ setup d st. sym c.if-not-up.false ∙ c.is_up-up.ensures setup d st)
     c.mark_synced-in-NoFile.new.self c.fail.new.self c.args.told.now c.fail.new.told (subst
     (λ outcome. NodeTurns (Syncs g.D.NodeDisk.facts outcome) (c.args.node.0 - 1) c.args.self.now.nodes.items
     c.sync_in.new.nodes.items) c.in-NoFile.is c.in_ok-outcome.ensures.ok)
-    c.mark_synced-in-NoFile.ensures c.in_ok-fail.ensures.ok c.in_ok-fail.ensures.says
+    c.mark_synced-in-NoFile.ensures c.in_ok-fail-in-NoFile.ensures.ok c.in_ok-fail-in-NoFile.ensures.says
 
-pub returns-in_default-fail-clause-ok : goal.returns-in_default-fail-clause-ok
-returns-in_default-fail-clause-ok g c =
+pub returns-in_ok-fail-in-Nothing-clause-ok : goal.returns-in_ok-fail-in-Nothing-clause-ok
+returns-in_ok-fail-in-Nothing-clause-ok g c =
     sync-failed c.args.node.0 c.args.self.now c.sync_in.new.nodes c.requires.node.0 c.requires.node.1
     (λ setup d st. sym c.if-not-up.false ∙ c.is_up-up.ensures setup d st)
     c.fail-in-Nothing.new.self c.args.told.now c.fail-in-Nothing.new.told (subst
     (λ outcome. NodeTurns (Syncs g.D.NodeDisk.facts outcome) (c.args.node.0 - 1) c.args.self.now.nodes.items
     c.sync_in.new.nodes.items) c.in-Nothing.is c.in_ok-outcome.ensures.ok)
-    c.in_default-fail.ensures.ok c.in_default-fail.ensures.says
+    c.in_ok-fail-in-Nothing.ensures.ok c.in_ok-fail-in-Nothing.ensures.says
