@@ -30,10 +30,12 @@ def run(program, given):
     """Runs the program by its words, and explains its status."""
     asked_words, own = words.own(given)
     asked = explain.asked_of(asked_words)
+    root = asked.values.get("--root") if asked else None
+    setup = setups.text_in(root)
     if asked and asked.command == "script":
         source = running.input_of() if "--root" in asked.values else None
         script = source.head() if isinstance(source, running.FileInput) else b""
-        may, told = setups.compare(asked.values.get("--root"), asked, "--force" in own, script)
+        may, told = setups.compare(root, asked, "--force" in own, script)
         tell(told)
         if not may:
             return 1
@@ -42,6 +44,8 @@ def run(program, given):
         if os.path.isdir(asked.values["--root"]) and not os.path.isdir(folder):
             tell([f"there is no {folder}: nothing is printed of it"])
     status, source = running.run([program, *asked_words], bool(asked) and asked.command == "script")
+    if status in setups.REFUSED and setup is not None and asked.command == "script":
+        setups.put(root, setup)
     tell(explain.of_status(status, asked_words, source))
     if "--check" in own and asked and status == 0:
         return importlib.import_module("drills").compare(program, asked)

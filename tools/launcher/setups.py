@@ -16,6 +16,8 @@ HEAD = "; What this folder was made with. ./qq compares it with the words of eac
 # The queues are pairs of a name and arguments in the order of their numbers, from 1.
 Setup = namedtuple("Setup", "nodes group log_bytes definitions queues")
 READ_SECONDS = 0.5
+# At these statuses the program has refused what a folder has, so the folder's setup stays what it was.
+REFUSED = (7, 8, 9)
 NOT_ALL_READ = "some sessions' numbers are taken there: its logs are long, and weren't read whole"
 
 
@@ -85,14 +87,27 @@ def read(root):
         return None
 
 
+def text_in(root):
+    """Returns the text of a folder's setup, or None where it has none."""
+    try:
+        with open(os.path.join(root or os.devnull, NAME), encoding="utf-8") as file:
+            return file.read()
+    except (OSError, ValueError):
+        return None
+
+
 def write(root, setup):
     """Writes the setup of a folder, which is made where it is absent. Says whether it was written."""
+    return put(root, text_of(setup))
+
+
+def put(root, text):
     path = os.path.join(root, NAME)
     made = f"{path}.{os.getpid()}"
     try:
         os.makedirs(root, exist_ok=True)
         with open(made, "w", encoding="utf-8") as file:
-            file.write(text_of(setup))
+            file.write(text)
         os.replace(made, path)
         return True
     except OSError:
@@ -191,14 +206,14 @@ def gone(root, setup):
     return [f"{logs.folder_of(root, node)} has no log files" for node in sorted(members - set(there))]
 
 
-def refusal(root, made, now, other, lost):
+def refusal(root, made_with, why, other, lost):
     """Says why a run doesn't start over a folder."""
     if other:
         return [
             f"not started: {root} was made with other words or queues",
             *(f"  {it}" for it in other),
-            f"  {why_not(made, now)}",
-            f"  it was made with: {words_of(made)}",
+            f"  {why}",
+            f"  it was made with: {made_with}",
             "  --force starts it all the same, and makes the words of now those of the folder",
         ]
     return [
@@ -227,13 +242,15 @@ def compare(root, asked, is_forced, script=b""):
         write(root, now)
         return True, []
     made, told = read(root), []
+    made_with = made and words_of(made)
     if made is None:
         made = guess(root, now)
+        made_with = f"--nodes {made.nodes}, and other words that its files don't show"
         told.append(f"{root} has files, and no `{NAME}` that says with which words: its nodes alone were compared")
     other = differences(made, now)
     lost = [] if other else gone(root, made)
     if (other or lost) and not is_forced:
-        return False, told + refusal(root, made, now, other, lost)
+        return False, told + refusal(root, made_with, why_not(made, now), other, lost)
     told += forced(root, other, lost)
     if told:
         write(root, now)
