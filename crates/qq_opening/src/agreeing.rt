@@ -6,8 +6,8 @@ ghost use Rattle.qq_opening.specs.Opened.{Agrees, Disagrees, TellsLost};
 
 use crate::restarting::RestartFault;
 use qq_base::{Memory, QueueId};
-use qq_disk::NodeDisk;
 use qq_cluster::Nodes;
+use qq_disk::NodeDisk;
 
 /// The first queue whose members' logs support no audit, by its index.
 pub(crate) fn first_lost<D: NodeDisk>(nodes: &Nodes<D>) -> Option<usize>

@@ -2,8 +2,8 @@
 ghost use Rattle.std.specs.Prelude.{◌≡◌, ◌<◌, length, not};
 ghost use Rattle.qq_cluster.specs.Logs.{NodeTurns};
 
-use qq_disk::NodeDisk;
 use qq_cluster::Node;
+use qq_disk::NodeDisk;
 
 fn mark<D: NodeDisk>(node: &mut Node<D>, up: bool)
     ensures { node.new ≡ record node.old { up = up; empty = not up } }

@@ -10,9 +10,9 @@ use crate::marking::mark_in;
 use crate::restarting::RestartFault;
 use crate::stepping::recover_node;
 use qq_base::NodeId;
+use qq_cluster::{Nodes, Told};
 use qq_cluster_model::a_queue_may_begin_with_new_logs;
 use qq_disk::NodeDisk;
-use qq_cluster::{Nodes, Told};
 use qq_taker::Taker;
 use std::alloc::Global;
 

@@ -7,8 +7,8 @@ ghost use Rattle.qq_cluster.specs.Nodes.{CanServe, Served, Stands};
 ghost use Rattle.qq_opening.specs.Restarting.{IsReopening, Refuses, all_nodes};
 
 use crate::restarting::{RestartFault, restart_each};
-use qq_disk::NodeDisk;
 use qq_cluster::{Nodes, Told};
+use qq_disk::NodeDisk;
 use qq_taker::Taker;
 use std::alloc::Global;
 

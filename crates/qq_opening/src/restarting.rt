@@ -7,8 +7,8 @@ ghost use Rattle.qq_opening.specs.Restarting.{Refuses, all_nodes, this_node};
 
 use crate::stepping::recover_node;
 use qq_base::{Memory, NodeId, QueueId};
-use qq_disk::{FileName, NodeDisk};
 use qq_cluster::{Nodes, Told};
+use qq_disk::{FileName, NodeDisk};
 use qq_taker::Taker;
 use std::alloc::Global;
 use thiserror::Error;

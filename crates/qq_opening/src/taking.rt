@@ -16,9 +16,9 @@ ghost use Rattle.qq_opening.specs.Taking.{AllChange, ChangesAt, IsFindCaused, Is
 
 use crate::restarting::RestartFault;
 use qq_base::{Memory, NodeId, QueueId};
-use qq_queue::ClusterQueue;
 use qq_group::RestartFault as TakeFault;
 use qq_log::{Lane, Log};
+use qq_queue::ClusterQueue;
 use std::alloc::Global;
 
 /// What is known of what a member's log was handed.
@@ -162,10 +162,8 @@ fn take_up(
 {
     let log = log_of_lane(alloc, id, lane);
     check_log(queue, node, handed, &log)?;
-    match queue.find(alloc, node, log) {
-        Ok(()) => Ok(()),
-        Err(fault) => Err(fault),
-    }
+    queue.find(alloc, node, log)?;
+    Ok(())
 }
 
 // The same of the queue at an index.

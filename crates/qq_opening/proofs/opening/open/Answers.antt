@@ -41,12 +41,12 @@ returns-clause-ok g c = λ rows new.
     c.pump.new.self c.pump.new.told
     (opens-served c.in_default-tick_each.ensures.ok c.in_default-pump.ensures.ok)
 
-pub returns-in-Err-tick_each-clause-err : goal.returns-in-Err-tick_each-clause-err
-returns-in-Err-tick_each-clause-err g c = λ rows new.
+pub returns-in-Err-clause-err : goal.returns-in-Err-clause-err
+returns-in-Err-clause-err g c = λ rows new.
     opens-gave_up rows c.args.nodes.now new c.in_ok-some.some c.open_each.new.nodes c.args.told.now
     c.open_each.new.told (c.in_ok-some.ensures.ok rows new)
     c.in_default.ensures.none c.a_queue_may_begin_with_new_logs.ensures
-    c.tick_each.new.self c.in-Err-tick_each.memory (ticks-gave_up c.in-Err-tick_each.ensures.err)
+    c.tick_each.new.self c.in-Err.memory (ticks-gave_up c.in-Err.ensures.err)
 
 pub returns-in-Err-pump-clause-err : goal.returns-in-Err-pump-clause-err
 returns-in-Err-pump-clause-err g c = λ rows new.

@@ -14,18 +14,18 @@ has_up-some-requires g c = can-after c.requires c.in_ok-restart_each.ensures.ok
 pub tick_each-requires : goal.tick_each-requires
 tick_each-requires g c = can-after c.requires c.in_ok-restart_each.ensures.ok
 
-pub returns-in-Err-tick_each-clause-err : goal.returns-in-Err-tick_each-clause-err
-returns-in-Err-tick_each-clause-err g c =
-    reopens-gave_up c.in_ok-restart_each.ensures.ok (ticks-gave_up c.in-Err-tick_each.ensures.err)
+pub returns-in-Err-clause-err : goal.returns-in-Err-clause-err
+returns-in-Err-clause-err g c =
+    reopens-gave_up c.in_ok-restart_each.ensures.ok (ticks-gave_up c.in-Err.ensures.err)
 
 pub pump-requires : goal.pump-requires
-pump-requires g c = can-after (can-after c.requires c.in_ok-restart_each.ensures.ok) c.in_default-tick_each.ensures.ok
+pump-requires g c = can-after (can-after c.requires c.in_ok-restart_each.ensures.ok) c.in_default.ensures.ok
 
 pub returns-in-Err-pump-clause-err : goal.returns-in-Err-pump-clause-err
 returns-in-Err-pump-clause-err g c =
-    reopens-gave_up c.in_ok-restart_each.ensures.ok (pump-gave_up c.in_default-tick_each.ensures.ok c.in-Err-pump.ensures.err)
+    reopens-gave_up c.in_ok-restart_each.ensures.ok (pump-gave_up c.in_default.ensures.ok c.in-Err-pump.ensures.err)
 
 pub returns-clause-ok : goal.returns-clause-ok
 returns-clause-ok g c =
     reopens c.has_up-some.result c.in_ok-restart_each.ensures.ok c.has_up-some.ensures
-    (opens-served c.in_default-tick_each.ensures.ok c.in_default-pump.ensures.ok)
+    (opens-served c.in_default.ensures.ok c.in_default-pump.ensures.ok)
