@@ -45,7 +45,7 @@ frame_fault max bytes Memory b = absurd b.fails
 
 -- ---- what is found is there
 
--- the payload of a head, the byte after it, and the bytes behind
+-- the payload of a head, the byte after it, and the bytes after that
 record HasPayload (head : Head) (bytes rest : List ℕ) (last : ℕ) : Type 0 where
   is : bytes
       ≡ u8 head.kind ++ (u16 head.channel ++ (u32 (length (take head.size rest))

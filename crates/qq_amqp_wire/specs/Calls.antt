@@ -32,7 +32,7 @@ frames_of [] input = []
 frames_of (Feeds piece ∷ calls) input = frames_of calls (fed piece input)
 frames_of (Asks ∷ calls) input = handed (next input).0 (frames_of calls (next input).1)
 
--- the bytes are these frames, one behind the other, and then a rest
+-- the bytes are these frames, one after the other, and then a rest
 abbrev pub Splits : Bool → ℕ → List ℕ → List Frame → List ℕ → Type 0
 Splits begun max bytes [] rest = bytes ≡ rest
 Splits begun max bytes (frame ∷ frames) rest =

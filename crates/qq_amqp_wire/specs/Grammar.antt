@@ -141,7 +141,7 @@ abbrev pub HasFault : Bool → ℕ → List ℕ → WireFault → Type 0
 HasFault false max bytes fault = HasProtocolFault bytes fault
 HasFault true max bytes fault = HasFrameFault max bytes fault
 
--- a frame stands at the front of the bytes, and the rest behind it
+-- a frame stands at the front of the bytes, and the rest after it
 pub record IsRead (begun : Bool) (max : ℕ) (bytes : List ℕ) (frame : Frame) (rest : List ℕ) : Type 0 where
   pub text : List ℕ
   pub spells : Spells begun max frame text

@@ -21,7 +21,7 @@ use Rattle.qq_route.specs.Setup.{state_of}
 use Rattle.qq_wal.specs.Running.{top}
 use Rattle.qq_wal_chain.specs.Lanes.{IsStateOf, Lanes}
 use Rattle.qq_wal_chain.specs.Laws.{KeepsPromise}
-use Rattle.qq_cluster.specs.Cluster.{Setup as ClusterSetup, members}
+use Rattle.qq_cluster_model.specs.Cluster.{Setup as ClusterSetup, members}
 use Rattle.qq_cluster_laws.specs.Linked.{lot_of}
 use Rattle.qq_cluster_laws.specs.Restarts.{first_restart}
 use Rattle.qq_cluster_run.specs.Inputs.{Input}

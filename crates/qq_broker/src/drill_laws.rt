@@ -6,7 +6,7 @@ ghost use Rattle.qq_log.specs.Stable.{Stable};
 ghost use Rattle.qq_ports.specs.Streams.{Streams};
 ghost use Rattle.qq_route.specs.Setup.{state_of};
 ghost use Rattle.qq_route.specs.declared.setup.Setup.{Setup};
-ghost use Rattle.qq_cluster.specs.Cluster.{ClusterEvent, Setup as ClusterSetup};
+ghost use Rattle.qq_cluster_model.specs.Cluster.{ClusterEvent, Setup as ClusterSetup};
 ghost use Rattle.qq_cluster_run.specs.Drilling.{drill_setup, drill_text, parts};
 ghost use Rattle.qq_cluster_run.specs.Drills.{DrillEnds, Drilled, cluster_drilled, setup_drilled};
 ghost use Rattle.qq_cluster_run.specs.Endings.{lost, spent};

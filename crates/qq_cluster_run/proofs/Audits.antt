@@ -9,9 +9,9 @@ use Rattle.qq_route.specs.declared.queue_row.QueueRow.{QueueRow}
 use Rattle.qq_route.specs.declared.setup.Setup.{Setup}
 use Rattle.qq_route.specs.Setup.{state_of}
 use Rattle.qq_script.specs.Audit.{audit_text}
-use Rattle.qq_cluster.specs.Cluster.{Cluster}
-use Rattle.qq_cluster.specs.Queue.{audit_rows}
-use Rattle.qq_cluster.specs.Texts.{audits_text}
+use Rattle.qq_cluster_model.specs.Cluster.{Cluster}
+use Rattle.qq_cluster_model.specs.Queue.{audit_rows}
+use Rattle.qq_cluster_model.specs.Texts.{audits_text}
 use Rattle.qq_cluster_run.specs.Setup.{Logs, cluster_over, name_by, place_of, row_at}
 use Rattle.qq_cluster_run.proofs.QueueRows.{each-found}
 

@@ -14,9 +14,9 @@ use Rattle.qq_log.specs.Stable.{Stable, stable}
 use Rattle.qq_raft_protocol.specs.Facts.{In}
 use Rattle.qq_script_lines.specs.declared.line.ScriptLine.{ScriptLine}
 use Rattle.qq_words.specs.declared.options.Options.{Options}
-use Rattle.qq_cluster.specs.Cluster.{Setup as ClusterSetup, ClusterEvent, members}
-use Rattle.qq_cluster.specs.Laws.{IsBegun}
-use Rattle.qq_cluster.specs.Rules.{ForEach, IsRestart}
+use Rattle.qq_cluster_model.specs.Cluster.{Setup as ClusterSetup, ClusterEvent, members}
+use Rattle.qq_cluster_model.specs.Laws.{IsBegun}
+use Rattle.qq_cluster_model.specs.Rules.{ForEach, IsRestart}
 use Rattle.qq_cluster_run.specs.Endings.{Ending, lost}
 use Rattle.qq_cluster_run.specs.Inputs.{Input, inputs_of}
 use Rattle.qq_cluster_run.specs.Reading.{Asks, says}

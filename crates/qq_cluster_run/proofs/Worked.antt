@@ -24,12 +24,12 @@ use Rattle.qq_script_lines.specs.declared.fault.ScriptFault.TheVariants.{Words, 
 use Rattle.qq_script_lines.specs.declared.line.ScriptLine.{ScriptLine}
 use Rattle.qq_script_lines.specs.declared.line.ScriptLine.TheVariants.{Attach, Publish}
 use Rattle.qq_script_lines.specs.Lines.{read}
-use Rattle.qq_cluster.specs.Cluster.{Setup as ClusterSetup, ClusterEvent, new_cluster, cluster_after}
-use Rattle.qq_cluster.specs.ClusterLaws.{HasGroups, IsServedBy, has_failure, findings, verdicts}
-use Rattle.qq_cluster.specs.Lines.{IsRun}
-use Rattle.qq_cluster.specs.Rules.{most_rounds}
-use Rattle.qq_cluster.specs.Serving.{all_given, line, run}
-use Rattle.qq_cluster.specs.Texts.{text_of, audits_text}
+use Rattle.qq_cluster_model.specs.Cluster.{Setup as ClusterSetup, ClusterEvent, new_cluster, cluster_after}
+use Rattle.qq_cluster_model.specs.ClusterLaws.{HasGroups, IsServedBy, has_failure, findings, verdicts}
+use Rattle.qq_cluster_model.specs.Lines.{IsRun}
+use Rattle.qq_cluster_model.specs.Rules.{most_rounds}
+use Rattle.qq_cluster_model.specs.Serving.{all_given, line, run}
+use Rattle.qq_cluster_model.specs.Texts.{text_of, audits_text}
 use Rattle.qq_cluster_run.specs.Endings.{fault_text, refusal}
 use Rattle.qq_cluster_run.specs.Inputs.{Input, raw_lines_of, input_of, inputs_by, inputs_of, feed_count}
 use Rattle.qq_cluster_run.specs.Reading.{Asks, Ends, read_line, read_input, says_by, says, AskFor}

@@ -1,4 +1,4 @@
-//! What an export comes to in a run, as laws: the functions do nothing, and their contracts are the laws.
+//! What becomes of an export in a run, as laws: the functions do nothing, and their contracts are the laws.
 ghost use Rattle.std.specs.Prelude.{◌≡◌, ◌⊎◌, ◌++◌, [], ℕ, List, Option, Some, None, Ok, Err, codes};
 ghost use Rattle.std.specs.Fmt.{decimal};
 ghost use Rattle.qq_ports.specs.Streams.{ShelfFails, ShelfState};

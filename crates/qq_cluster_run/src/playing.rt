@@ -2,7 +2,7 @@
 ghost use Rattle.std.specs.Prelude.{◌≡◌, ◌<◌, ◌≤◌, ◌++◌, ◌∷◌, [], codes, length, string_bytes, IfOk, IsOkUnless, OnOk};
 ghost use Rattle.qq_route.specs.Setup.{state_of};
 ghost use Rattle.qq_defs.specs.Runnable.{IsRunnable};
-ghost use Rattle.qq_cluster.specs.Outcome.{deliveries_among};
+ghost use Rattle.qq_cluster_model.specs.Outcome.{deliveries_among};
 ghost use Rattle.qq_drill.specs.Drill.{new_drill};
 ghost use Rattle.qq_cluster_run.specs.Drilling.{Known, after_part, begin_part, drill_setup, first_digits, first_known, hear_each, part_lines, summary, tell};
 ghost use Rattle.qq_cluster_run.specs.Playing.{Knows};

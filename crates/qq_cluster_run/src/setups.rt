@@ -9,7 +9,7 @@ ghost use Rattle.qq_route.specs.Routes.{targets};
 ghost use Rattle.qq_route.specs.declared.setup.Setup.{Setup};
 ghost use Rattle.qq_route.specs.Members.{members};
 ghost use Rattle.qq_route.specs.Setup.{plain_setup, state_of};
-ghost use Rattle.qq_cluster.specs.ClusterLaws.{HasGroups};
+ghost use Rattle.qq_cluster_model.specs.ClusterLaws.{HasGroups};
 ghost use Rattle.qq_cluster_run.specs.Setup.{cluster_of, cluster_setup, new_logs};
 ghost use Rattle.qq_defs.specs.Runnable.{IsRunnable};
 

@@ -19,7 +19,9 @@ use Rattle.qq_session.specs.Publishing.{OpenCommand, Numbers, next_command, hand
 use Rattle.qq_session.specs.Deeds.{is_sent_by, takes_of, after_deeds}
 use Rattle.qq_session.specs.Printed.{closed_number}
 use Rattle.qq_session.specs.Clients.{Clients, sender, sender_by, ended_by, tells_end, hear, hear_all, is_printed_by, is_printed, printed}
-use Rattle.qq_session.specs.Shown.{Shown, Answered, said_of}
+use Rattle.qq_session.specs.declared.shown.Shown.{Shown}
+use Rattle.qq_session.specs.declared.shown.Shown.TheVariants.{Answered}
+use Rattle.qq_session.specs.Shown.{said_of}
 use Rattle.qq_session.proofs.Heard.{heard, heard-numbers}
 
 -- a number was given and is closed

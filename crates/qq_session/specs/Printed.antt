@@ -13,7 +13,8 @@ use Rattle.qq_entry.specs.declared.message.Origin.{Origin}
 use Rattle.qq_session.specs.ExactlyOne.{ExactlyOne}
 use Rattle.qq_session.specs.Deeds.{is_sent_by}
 use Rattle.qq_session.specs.Clients.{Clients, sender, ended_by, is_printed}
-use Rattle.qq_session.specs.Shown.{Shown, Answered}
+use Rattle.qq_session.specs.declared.shown.Shown.{Shown}
+use Rattle.qq_session.specs.declared.shown.Shown.TheVariants.{Answered}
 
 -- a row of an audit that answers a command of a client, or the end of its session
 pub record IsAnswer (audit : List AuditRow) (row : AuditRow) : Type 0 where

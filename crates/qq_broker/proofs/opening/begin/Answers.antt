@@ -7,5 +7,5 @@ pub returns-in-Ok-begin_over-clause-ok : goal.returns-in-Ok-begin_over-clause-ok
 returns-in-Ok-begin_over-clause-ok g c =
     let disk = g.Y.Disk.NodeDisk in
     c.in-Ok-begin_over.ensures.ok (under g.Y.Yard.is_given c.args.root.now)
-    (subst (λ (root : Option (List ℕ)). AreGiven (under g.Y.Yard.is_given root) disk.facts c.in-Ok.disks.items)
-    c.path_of.ensures c.in-Ok.ensures.given)
+    (subst (λ (root : Option (List ℕ)). AreGiven (under g.Y.Yard.is_given root) disk.facts c.in_ok-disks.disks.items)
+    c.path_of.ensures c.in_ok-disks.ensures.given)

@@ -1,4 +1,5 @@
 use Rattle.std.proofs.Common.{◌≡◌, ◌+◌, ℕ, Some, refl, sym, subst}
+use Rattle.qq_base.proofs.Exits.{at_exit}
 use Rattle.qq_cluster_run.specs.Asking.{HasAskCause}
 use Rattle.qq_cluster_run.specs.Reading.{Asks, says}
 use Rattle.qq_cluster_run.specs.Service.{HasServeCause}
@@ -19,8 +20,8 @@ serve-requires-clause-holds g c = λ lifetimes outlive. (
   (
     c.requires.holds.1.0,
     c.requires.holds.1.1,
-    asked-named c.args.setup.now c.requires.holds.1.0.logs c.args.before c.args.line.now c.in-Ok.said
-        (rows-are c.args.setup.now c.requires.may) c.in-Ok.ensures.ok,
+    asked-named c.args.setup.now c.requires.holds.1.0.logs c.args.before c.args.line.now c.in_ok-said.said
+        (rows-are c.args.setup.now c.requires.may) c.in_ok-said.ensures.ok,
   ),
 )
 
@@ -29,10 +30,10 @@ returns-in-Ok-serve-clause-ok g c =
     let s = c.args.setup.now in
     let disk = g.Y.Disk.NodeDisk in
     λ given first run lines h.
-    answers_from (RunHad given disk.facts first) s run c.in-Ok.said c.args.line.now
+    answers_from (RunHad given disk.facts first) s run c.in_ok-said.said c.args.line.now
     (HoldsAll given disk.facts s first c.serve.new.nodes c.serve.new.told.takers) c.args.told.now c.serve.new.told
-    (subst (λ (n : ℕ). says s n (Some c.args.line.now) ≡ Asks c.in-Ok.said) (sym lines) c.in-Ok.ensures.ok)
-    (served-all given disk.facts s first run c.in-Ok.said c.args.nodes.now c.serve.new.nodes
+    (subst (λ (n : ℕ). says s n (Some c.args.line.now) ≡ Asks c.in_ok-said.said) (sym lines) c.in_ok-said.ensures.ok)
+    (served-all given disk.facts s first run c.in_ok-said.said c.args.nodes.now c.serve.new.nodes
     c.args.told.now c.serve.new.told h c.in-Ok-serve.ensures.free (c.in-Ok-serve.ensures.ok given run h.holds))
 
 pub returns-in-Err-serve-clause-cause : goal.returns-in-Err-serve-clause-cause
@@ -43,11 +44,11 @@ returns-in-Err-serve-clause-cause g c =
     let after = g.Y.Yard.faults c.serve.new.yard in
     λ given first run lines h.
     (let met = RunMeets given disk.facts first before after in
-    stops_from met s run c.in-Ok.said c.args.line.now c.step_stop.result
-    (subst (λ (n : ℕ). says s n (Some c.args.line.now) ≡ Asks c.in-Ok.said) (sym lines) c.in-Ok.ensures.ok)
-    (subst (λ (n : ℕ). HasServeCause met (setup_in s run) run.events (n + 1) c.in-Ok.said c.step_stop.result)
+    stops_from met s run c.in_ok-said.said c.args.line.now c.step_stop.result
+    (subst (λ (n : ℕ). says s n (Some c.args.line.now) ≡ Asks c.in_ok-said.said) (sym lines) c.in_ok-said.ensures.ok)
+    (subst (λ (n : ℕ). HasServeCause met (setup_in s run) run.events (n + 1) c.in_ok-said.said c.step_stop.result)
     (sym lines)
-    (told-stop (HasServeCause met (setup_in s run) run.events (c.args.before + 1) c.in-Ok.said) s (c.args.before + 1)
+    (told-stop (HasServeCause met (setup_in s run) run.events (c.args.before + 1) c.in_ok-said.said) s (c.args.before + 1)
     c.in-Err-serve.fault c.step_stop.result tt c.step_stop.ensures
     (c.in-Err-serve.ensures.cause given first run (c.args.before + 1) h.holds h.seen))))
 
@@ -58,11 +59,12 @@ returns-in-Err-serve-clause-same g c = λ refused.
     (c.args.before + 1) c.in-Err-serve.fault c.step_stop.result (λ none. absurd none) c.step_stop.ensures
     (refused-gone c.args.setup.now (c.args.before + 1) c.in-Err-serve.fault) refused)
 
-pub returns-in-Err-clause-cause : goal.returns-in-Err-clause-cause
-returns-in-Err-clause-cause g c =
-    let s = c.args.setup.now in λ given first run lines h.
-    asks_from _ s run c.args.line.now c.in-Err.stop
-    (subst (λ (n : ℕ). HasAskCause c.in-Err.stop (says s n (Some c.args.line.now))) (sym lines) c.in-Err.ensures.cause)
+pub returns-in_err-said-clause-cause : goal.returns-in_err-said-clause-cause
+returns-in_err-said-clause-cause g c =
+    at_exit _ _ c.from_residual.ensures.1 (let s = c.args.setup.now in λ given first run lines h.
+    asks_from _ s run c.args.line.now c.in_err-said.stop
+    (subst (λ (n : ℕ). HasAskCause c.in_err-said.stop (says s n (Some c.args.line.now))) (sym lines) c.in_err-said.ensures.cause))
 
-pub returns-in-Err-clause-same : goal.returns-in-Err-clause-same
-returns-in-Err-clause-same g c = λ refused. refl
+pub returns-in_err-said-clause-same : goal.returns-in_err-said-clause-same
+returns-in_err-said-clause-same g c =
+    at_exit _ _ c.from_residual.ensures.1 (λ refused. refl)
