@@ -94,7 +94,7 @@ fn read_case(alloc: Global, line: &str) -> Result<Case> {
     })
 }
 
-/// Asks a reader until no frame comes, and tells each.
+/// Asks a reader until no frame comes, and adds each to the list.
 fn drain(alloc: Global, reader: &mut Reader, frames: &mut Vec<Frame>) -> Result<Option<WireFault>> {
     for _ in 0..u64::MAX {
         match reader.next_frame() {
