@@ -61,9 +61,11 @@ returns-in-Err-clause-same g c = λ refused.
 
 pub returns-in_err-said-clause-cause : goal.returns-in_err-said-clause-cause
 returns-in_err-said-clause-cause g c =
-    at_exit _ _ c.from_residual.ensures.1 (let s = c.args.setup.now in λ given first run lines h.
-    asks_from _ s run c.args.line.now c.in_err-said.field-0.0
-    (subst (λ (n : ℕ). HasAskCause c.in_err-said.field-0.0 (says s n (Some c.args.line.now))) (sym lines) c.in_err-said.ensures.cause))
+    let s = c.args.setup.now in
+    λ given first run lines h. at_exit _ _ c.from_residual.ensures.1
+    (asks_from _ s run c.args.line.now c.in_err-said.field-0.0
+    (subst (λ (n : ℕ). HasAskCause c.in_err-said.field-0.0 (says s n (Some c.args.line.now))) (sym lines)
+    c.in_err-said.ensures.cause))
 
 pub returns-in_err-said-clause-same : goal.returns-in_err-said-clause-same
 returns-in_err-said-clause-same g c =
