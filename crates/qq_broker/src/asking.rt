@@ -10,8 +10,8 @@ ghost use Rattle.qq_broker.specs.Serving.{IsGivenUp, IsServed};
 
 use crate::routing::{publish_with, targets};
 use qq_base::{Bytes, Duplicate, Memory, SessionId, Text};
-use qq_disk::NodeDisk;
 use qq_cluster::{Nodes, Told};
+use qq_disk::NodeDisk;
 use qq_route::Setup;
 use qq_script_lines::ScriptLine;
 use qq_taker::Taker;

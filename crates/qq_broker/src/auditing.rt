@@ -9,9 +9,9 @@ ghost use Rattle.qq_cluster_run.specs.Serving.{Run, cluster_in, setup_in};
 ghost use Rattle.qq_broker.specs.Lives.{Giving};
 ghost use Rattle.qq_broker.specs.Nodes.{Holds, MayRun};
 
+use qq_cluster::Nodes;
 use qq_cluster_run::PrintFault;
 use qq_disk::NodeDisk;
-use qq_cluster::Nodes;
 use qq_ports::{Failed, Sink, write_all};
 use qq_route::Setup;
 use std::alloc::Global;

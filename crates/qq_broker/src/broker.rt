@@ -15,8 +15,8 @@ ghost use Rattle.qq_broker.specs.Nodes.{Meets};
 ghost use Rattle.qq_broker.specs.Serving.{IsGivenUp};
 
 use qq_base::{Memory, QueueId};
-use qq_disk::NodeDisk;
 use qq_cluster::{Nodes, Told};
+use qq_disk::NodeDisk;
 use qq_route::Setup;
 use qq_taker::{Desk, Taker};
 use std::alloc::Global;

@@ -16,10 +16,10 @@ ghost use Rattle.qq_broker.specs.Nodes.{Meets};
 
 use crate::broker::{Broker, Pumped, give_back, lend, pump_outcome};
 use qq_base::{Memory, QueueId, SessionId};
+use qq_cluster::{Nodes, Told};
 use qq_cluster_model::who_listens_hears_what_is_told;
 use qq_disk::NodeDisk;
 use qq_entry::{AuditRow, Unstamped};
-use qq_cluster::{Nodes, Told};
 use qq_taker::{Desk, Handed, Heard, Refusal, Taker, What};
 use std::alloc::Global;
 

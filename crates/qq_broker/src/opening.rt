@@ -9,9 +9,9 @@ ghost use Rattle.qq_broker.specs.Serving.{AreGiven, AreUnopened, IsYardEnding, y
 
 use crate::stopping::restart_stop;
 use qq_base::{Memory, NodeId, Text};
+use qq_cluster::{Nodes, Told};
 use qq_cluster_run::{Ending, Stop, clusters_begin_with_new_logs};
 use qq_disk::NodeDisk;
-use qq_cluster::{Nodes, Told};
 use qq_opening::open as open_nodes;
 use qq_ports::{Yard, YardFault};
 use qq_recover::these_disks_may_be_recovered;

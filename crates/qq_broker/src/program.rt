@@ -20,11 +20,11 @@ use crate::opening::open;
 use crate::serving::serve;
 use crate::stopping::step_stop;
 use qq_base::Text;
+use qq_cluster::{Nodes, Told};
 use qq_cluster_run::status::{DONE, WRITE_FAULT};
 use qq_cluster_run::{
     AskStop, Ending, LINES_LIMIT, PrintFault, Stop, ask, refuse_long_line, set_up, write_made,
 };
-use qq_cluster::{Nodes, Told};
 use qq_ports::{LineFault, Lines, Shelf, Sink, Source, Yard, lines_law, next_line, write_all};
 use qq_route::Setup;
 use qq_taker::{Desk, Taker};

@@ -27,8 +27,8 @@ returns-in_err-list-clause-err g c =
     c.args.told.now first.told c.in_err-list.field-0.0 first.served
     c.in_err-list.ensures.err)
 
-pub returns-in-Ok-answer-clause-ok : goal.returns-in-Ok-answer-clause-ok
-returns-in-Ok-answer-clause-ok g c = record {
+pub returns-in-Ok-clause-ok : goal.returns-in-Ok-clause-ok
+returns-in-Ok-clause-ok g c = record {
   mid = c.hand.new.nodes;
   between = c.hand.new.told;
   asked = c.in_ok-asked.asked.items;
@@ -36,10 +36,10 @@ returns-in-Ok-answer-clause-ok g c = record {
   gives = c.in_ok-asked.ensures.ok;
   pumps = c.in_ok-list.ensures.ok;
   idle = λ setup d reached stands.
-      ap is_done c.in-Ok-answer.ensures.pumped ∙ c.pump_outcome.ensures ∙ c.is_idle-idle.ensures setup d reached stands;
-  outcome = c.in-Ok-answer.ensures.outcome ∙ c.outcome_heard-outcome.ensures
+      ap is_done c.in-Ok.ensures.pumped ∙ c.pump_outcome.ensures ∙ c.is_idle-idle.ensures setup d reached stands;
+  outcome = c.in-Ok.ensures.outcome ∙ c.outcome_heard-outcome.ensures
       ∙ ap outcome_heard c.as_slice.ensures.value;
-  rows = c.in-Ok-answer.ensures.rows;
-  effects = c.in-Ok-answer.ensures.effects;
-  others = c.in-Ok-answer.ensures.others;
+  rows = c.in-Ok.ensures.rows;
+  effects = c.in-Ok.ensures.effects;
+  others = c.in-Ok.ensures.others;
 }

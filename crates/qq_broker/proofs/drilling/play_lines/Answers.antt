@@ -31,7 +31,7 @@ play_line-requires-clause-plays g c = λ lifetimes bounds.
 
 pub returns-in_err-play_line-clause-cause : goal.returns-in_err-play_line-clause-cause
 returns-in_err-play_line-clause-cause g c =
-    at_exit _ _ c.from_residual.ensures.1 (λ given run k so.
+    λ given run k so. at_exit _ _ c.from_residual.ensures.1
     (let disk = g.Y.Disk.NodeDisk in
     let yards = g.Y.Yard.faults in
     let s = c.args.setup.now in
@@ -41,9 +41,9 @@ returns-in_err-play_line-clause-cause g c =
     on.are ∙ ap (λ (l : List ScriptLine). on.done ++ l) c.in-Some.ensures.steps.0 in
     lines-stop given disk.facts s (yards c.args.yard.now) (yards c.lines.yard) (yards c.play_line.new.yard)
     c.lines.invariant.later run c.args.lines.items on.done c.in-Some.line rest k c.lines.nodes
-    c.lines.told c.lines.play c.in_err-play_line.stop all on.so
+    c.lines.told c.lines.play c.in_err-play_line.field-0.0 all on.so
     (c.in_err-play_line.ensures.cause given (run_with run on.so.more) (know (setup_in s run) (cluster_in s run) on.so.more k)
-    on.so.plays)))
+    on.so.plays))
 
 pub lines-preserved : goal.lines-preserved
 lines-preserved g c =

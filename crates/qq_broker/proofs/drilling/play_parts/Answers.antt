@@ -17,7 +17,7 @@ play_part-requires-clause-plays g c = λ lifetimes bounds.
 
 pub returns-in_err-play_part-clause-cause : goal.returns-in_err-play_part-clause-cause
 returns-in_err-play_part-clause-cause g c =
-    at_exit _ _ c.from_residual.ensures.1 (λ given run k so.
+    λ given run k so. at_exit _ _ c.from_residual.ensures.1
     (let disk = g.Y.Disk.NodeDisk in
     let yards = g.Y.Yard.faults in
     let list = c.args.parts.now in
@@ -25,8 +25,8 @@ returns-in_err-play_part-clause-cause g c =
     let on = c.parts.invariant.go given run k so in
     parts-stop given disk.facts c.args.setup.now (yards c.args.yard.now) (yards c.parts.yard)
     (yards c.play_part.new.yard) c.parts.invariant.later run list (take i list) _ (drop (i + 1) list) k
-    c.parts.nodes c.parts.told c.parts.play c.in_err-play_part.stop (parts-split list i _ (omega (arith, c.parts-test.true))) on
-    (c.in_err-play_part.ensures.cause given (run_with run on.more) on.later on.plays)))
+    c.parts.nodes c.parts.told c.parts.play c.in_err-play_part.field-0.0 (parts-split list i _ (omega (arith, c.parts-test.true))) on
+    (c.in_err-play_part.ensures.cause given (run_with run on.more) on.later on.plays))
 
 pub parts-preserved : goal.parts-preserved
 parts-preserved g c =

@@ -25,8 +25,8 @@ serve-requires-clause-holds g c = λ lifetimes outlive. (
   ),
 )
 
-pub returns-in-Ok-serve-clause-ok : goal.returns-in-Ok-serve-clause-ok
-returns-in-Ok-serve-clause-ok g c =
+pub returns-in-Ok-clause-ok : goal.returns-in-Ok-clause-ok
+returns-in-Ok-clause-ok g c =
     let s = c.args.setup.now in
     let disk = g.Y.Disk.NodeDisk in
     λ given first run lines h.
@@ -34,10 +34,10 @@ returns-in-Ok-serve-clause-ok g c =
     (HoldsAll given disk.facts s first c.serve.new.nodes c.serve.new.told.takers) c.args.told.now c.serve.new.told
     (subst (λ (n : ℕ). says s n (Some c.args.line.now) ≡ Asks c.in_ok-said.said) (sym lines) c.in_ok-said.ensures.ok)
     (served-all given disk.facts s first run c.in_ok-said.said c.args.nodes.now c.serve.new.nodes
-    c.args.told.now c.serve.new.told h c.in-Ok-serve.ensures.free (c.in-Ok-serve.ensures.ok given run h.holds))
+    c.args.told.now c.serve.new.told h c.in-Ok.ensures.free (c.in-Ok.ensures.ok given run h.holds))
 
-pub returns-in-Err-serve-clause-cause : goal.returns-in-Err-serve-clause-cause
-returns-in-Err-serve-clause-cause g c =
+pub returns-in-Err-clause-cause : goal.returns-in-Err-clause-cause
+returns-in-Err-clause-cause g c =
     let s = c.args.setup.now in
     let disk = g.Y.Disk.NodeDisk in
     let before = g.Y.Yard.faults c.args.yard.now in
@@ -49,21 +49,23 @@ returns-in-Err-serve-clause-cause g c =
     (subst (λ (n : ℕ). HasServeCause met (setup_in s run) run.events (n + 1) c.in_ok-said.said c.step_stop.result)
     (sym lines)
     (told-stop (HasServeCause met (setup_in s run) run.events (c.args.before + 1) c.in_ok-said.said) s (c.args.before + 1)
-    c.in-Err-serve.fault c.step_stop.result tt c.step_stop.ensures
-    (c.in-Err-serve.ensures.cause given first run (c.args.before + 1) h.holds h.seen))))
+    c.in-Err.fault c.step_stop.result tt c.step_stop.ensures
+    (c.in-Err.ensures.cause given first run (c.args.before + 1) h.holds h.seen))))
 
-pub returns-in-Err-serve-clause-same : goal.returns-in-Err-serve-clause-same
-returns-in-Err-serve-clause-same g c = λ refused.
-    c.in-Err-serve.ensures.same
-    (told-stop (λ (stop : AskStop). IsRefusedBy stop → c.in-Err-serve.fault ≡ NoSuch) c.args.setup.now
-    (c.args.before + 1) c.in-Err-serve.fault c.step_stop.result (λ none. absurd none) c.step_stop.ensures
-    (refused-gone c.args.setup.now (c.args.before + 1) c.in-Err-serve.fault) refused)
+pub returns-in-Err-clause-same : goal.returns-in-Err-clause-same
+returns-in-Err-clause-same g c = λ refused.
+    c.in-Err.ensures.same
+    (told-stop (λ (stop : AskStop). IsRefusedBy stop → c.in-Err.fault ≡ NoSuch) c.args.setup.now
+    (c.args.before + 1) c.in-Err.fault c.step_stop.result (λ none. absurd none) c.step_stop.ensures
+    (refused-gone c.args.setup.now (c.args.before + 1) c.in-Err.fault) refused)
 
 pub returns-in_err-said-clause-cause : goal.returns-in_err-said-clause-cause
 returns-in_err-said-clause-cause g c =
-    at_exit _ _ c.from_residual.ensures.1 (let s = c.args.setup.now in λ given first run lines h.
-    asks_from _ s run c.args.line.now c.in_err-said.stop
-    (subst (λ (n : ℕ). HasAskCause c.in_err-said.stop (says s n (Some c.args.line.now))) (sym lines) c.in_err-said.ensures.cause))
+    let s = c.args.setup.now in
+    λ given first run lines h. at_exit _ _ c.from_residual.ensures.1
+    (asks_from _ s run c.args.line.now c.in_err-said.field-0.0
+    (subst (λ (n : ℕ). HasAskCause c.in_err-said.field-0.0 (says s n (Some c.args.line.now))) (sym lines)
+    c.in_err-said.ensures.cause))
 
 pub returns-in_err-said-clause-same : goal.returns-in_err-said-clause-same
 returns-in_err-said-clause-same g c =

@@ -26,11 +26,11 @@ crash_one-requires-clause-holds g c = λ lifetimes bounds.
     ))
 
 pub returns-in_err-crash_one-clause-cause : goal.returns-in_err-crash_one-clause-cause
-returns-in_err-crash_one-clause-cause g c =
-    at_exit _ _ c.from_residual.ensures.1 (record {
+returns-in_err-crash_one-clause-cause g c = record {
   later = omega (arith, c.nodes.invariant.later, c.crash_one.ensures.cause.later);
-  cause = yard-earlier _ _ _ c.in_err-crash_one.field-0.0 c.nodes.invariant.later c.in_err-crash_one.ensures.cause.cause;
-})
+  cause = at_exit _ _ c.from_residual.ensures.1 (yard-earlier _ _ _ c.in_err-crash_one.field-0.0 c.nodes.invariant.later
+      c.in_err-crash_one.ensures.cause.cause);
+}
 
 pub nodes-preserved : goal.nodes-preserved
 nodes-preserved g c = record {
