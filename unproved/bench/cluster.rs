@@ -12,7 +12,7 @@ use qq_broker::{Broker, open_disks, step};
 use qq_mem_disk::MemDisk;
 use qq_ports::{MemShelf, MemSink, MemSource, MemYard};
 use qq_script_lines::{Place, parse_line};
-use qq_setup::Setup;
+use qq_route::Setup;
 use qq_taker::{Desk, FixedTaker};
 use std::alloc::Global;
 use std::time::Instant;

@@ -15,7 +15,7 @@ use qq_entry::{Command, QueueArgs};
 use qq_group::{Event, Group};
 use qq_log::{Lane, Log};
 use qq_mem_disk::MemDisk;
-use qq_raft_queues::MachineQueue;
+use qq_queue::MachineQueue;
 use qq_wal::Wal;
 use std::alloc::Global;
 use std::time::Instant;

@@ -8,7 +8,7 @@ use qq_broker::{Broker, Pumped, StepFault, open_disks, reopen_disks, step};
 use qq_mem_disk::MemDisk;
 use qq_ports::MemYard;
 use qq_script_lines::{Place, parse_line};
-use qq_setup::Setup;
+use qq_route::Setup;
 use qq_taker::{Desk, Taker};
 
 /// A line stands in no client's section.

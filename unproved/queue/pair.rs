@@ -2,7 +2,7 @@ use anyhow::{Result, ensure};
 use qq_base::{Duplicate, Index};
 use qq_entry::{Answer, Effect, Entry, QueueArgs};
 use qq_machine::Machine;
-use qq_entry_checks::is_in_range;
+use qq_entry::is_in_range;
 use qq_serial::Serial;
 use std::alloc::Global;
 

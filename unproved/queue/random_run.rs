@@ -6,7 +6,7 @@
 //! of parts tells of itself is what its users know.
 //!
 //! Printed is how many kinds of answers and effects were seen. Of the 25 kinds of answers three never come,
-//! which need a crowd: too many open numbers, consumers and sessions (`examples/audits` has these).
+//! which need a crowd: too many open numbers, consumers and sessions (`cases/audits` has these).
 use crate::draw::Draw;
 use crate::pair::{Made, Pair};
 use crate::random_command::draw_command;

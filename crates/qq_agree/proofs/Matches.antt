@@ -9,8 +9,8 @@ use Rattle.std.proofs.lemmas.List.{length-drop}
 use Rattle.qq_base.specs.Fronts.{IsFront}
 use Rattle.qq_base.proofs.Fronts.{front-compare, front-cons, front-trans, longer_front, same_head, same_tail}
 use Rattle.qq_entry.specs.declared.command.Entry.{Entry}
-use Rattle.qq_entry_checks.specs.Same.{same_entry}
-use Rattle.qq_entry_checks.proofs.Equalities.{entry_decides}
+use Rattle.qq_entry.specs.Same.{same_entry}
+use Rattle.qq_entry.proofs.Equalities.{entry_decides}
 use Rattle.qq_raft_protocol.specs.World.{Lane}
 use Rattle.qq_raft_protocol.specs.Facts.{add, In}
 use Rattle.qq_raft_protocol.proofs.Lists.{In-front}

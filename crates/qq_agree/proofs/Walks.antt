@@ -6,7 +6,7 @@ use Rattle.std.proofs.lemmas.List.{drop_more}
 use Rattle.std.proofs.lemmas.Option.{get_or_from_slice_get, slice_get_within}
 use Rattle.qq_base.specs.declared.ids.NodeId.{NodeId}
 use Rattle.qq_entry.specs.declared.command.Entry.{Entry}
-use Rattle.qq_entry_checks.specs.Same.{same_entry}
+use Rattle.qq_entry.specs.Same.{same_entry}
 use Rattle.qq_raft_protocol.specs.World.{Lane}
 use Rattle.qq_agree.specs.Tests.{apart, common, has_election, have_elections, rises, terms_rise}
 

@@ -3,7 +3,7 @@ use Rattle.std.specs.Prelude.{◌+◌, ◌-◌, ◌*◌, ℕ, zero, suc, Bool, t
 use Rattle.std.specs.List.{list_all, list_any}
 use Rattle.qq_base.specs.declared.ids.NodeId.{NodeId}
 use Rattle.qq_entry.specs.declared.command.Entry.{Entry}
-use Rattle.qq_entry_checks.specs.Same.{same_entry}
+use Rattle.qq_entry.specs.Same.{same_entry}
 use Rattle.qq_raft_protocol.specs.World.{Lane}
 use Rattle.qq_raft_protocol.specs.Facts.{tally}
 use Rattle.qq_agree.specs.Support.{numbers}

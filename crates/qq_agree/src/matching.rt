@@ -6,7 +6,7 @@ ghost use Rattle.qq_agree.specs.Tests.{all_match, apart, common, logs_match, mat
 
 use crate::holder::Holder;
 use qq_base::NodeId;
-use qq_entry_checks::same_entry;
+use qq_entry::same_entry;
 
 /// How many entries two members' logs both begin with.
 fn common<H: Holder>(holder: &H, a: NodeId, b: NodeId) -> u64

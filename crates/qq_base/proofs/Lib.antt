@@ -1,3 +1,4 @@
+pub mod Exits
 pub mod Fronts
 pub mod InPlace
 pub mod Lists

@@ -11,17 +11,17 @@ use Rattle.qq_disk.specs.Facts.{DiskFacts}
 use Rattle.qq_entry.specs.declared.command.Unstamped.{Unstamped}
 use Rattle.qq_script_lines.specs.declared.line.ScriptLine.{ScriptLine}
 use Rattle.qq_script_lines.specs.declared.line.ScriptLine.TheVariants.{Nothing, Publish, Send}
-use Rattle.qq_setup.specs.declared.setup.Setup.{Setup}
-use Rattle.qq_setup.specs.Setup.{state_of}
-use Rattle.qq_cluster.specs.Outcome.{Outcome}
-use Rattle.qq_cluster.specs.Cluster.{Cluster, ClusterEvent, Setup as ClusterSetup}
-use Rattle.qq_cluster.specs.Lines.{AndPumped, IsLine, IsRouted, publish_with}
+use Rattle.qq_route.specs.declared.setup.Setup.{Setup}
+use Rattle.qq_route.specs.Setup.{state_of}
+use Rattle.qq_cluster_model.specs.Outcome.{Outcome}
+use Rattle.qq_cluster_model.specs.Cluster.{Cluster, ClusterEvent, Setup as ClusterSetup}
+use Rattle.qq_cluster_model.specs.Lines.{AndPumped, IsLine, IsRouted, publish_with}
 use Rattle.qq_cluster_run.specs.Serving.{Run, after_all, cluster_in, setup_in}
 use Rattle.qq_cluster_run.specs.Setup.{places_for}
 use Rattle.qq_cluster_run.specs.Troubles.{Trouble}
-use Rattle.qq_nodes.specs.Nodes.{GaveUp, Served}
-use Rattle.qq_nodes.specs.Sending.{numbers_of}
-use Rattle.qq_nodes.specs.declared.nodes.Nodes.{Nodes}
+use Rattle.qq_cluster.specs.Nodes.{GaveUp, Served}
+use Rattle.qq_cluster.specs.Sending.{numbers_of}
+use Rattle.qq_cluster.specs.declared.nodes.Nodes.{Nodes}
 use Rattle.qq_broker.specs.Lives.{Giving}
 use Rattle.qq_broker.specs.Nodes.{Holds, Meets}
 use Rattle.qq_broker.specs.Serving.{IsGivenUp, IsServed, run_after}

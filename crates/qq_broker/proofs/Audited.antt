@@ -4,18 +4,18 @@ use Rattle.std.specs.Prelude.{Contains}
 use Rattle.qq_disk.specs.Facts.{DiskFacts}
 use Rattle.qq_ports.specs.Streams.{SinkState, Writes, WritesPart}
 use Rattle.qq_script.specs.Audit.{audit_text}
-use Rattle.qq_setup.specs.declared.queue_row.QueueRow.{QueueRow}
-use Rattle.qq_setup.specs.declared.setup.Setup.{Setup}
-use Rattle.qq_cluster.specs.Cluster.{Cluster, Setup as ClusterSetup}
-use Rattle.qq_cluster.specs.Queue.{audit_rows}
-use Rattle.qq_cluster.specs.Texts.{audits_text}
+use Rattle.qq_route.specs.declared.queue_row.QueueRow.{QueueRow}
+use Rattle.qq_route.specs.declared.setup.Setup.{Setup}
+use Rattle.qq_cluster_model.specs.Cluster.{Cluster, Setup as ClusterSetup}
+use Rattle.qq_cluster_model.specs.Queue.{audit_rows}
+use Rattle.qq_cluster_model.specs.Texts.{audits_text}
 use Rattle.qq_cluster_run.specs.Pieces.{HasPrefix, HasSomePrefix}
 use Rattle.qq_cluster_run.specs.Serving.{Run, cluster_in, setup_in}
 use Rattle.qq_cluster_run.specs.Setup.{name_by, place_of, row_at}
 use Rattle.qq_cluster_run.proofs.Audits.{audits_by_rows, has_place, row_audit}
 use Rattle.qq_cluster_run.proofs.Pieces.{join, last_item, next_item, nothing, some_next, some_rest, whole}
-use Rattle.qq_nodes.specs.Nodes.{IsQueueAt, Stands}
-use Rattle.qq_nodes.specs.declared.nodes.Nodes.{Nodes}
+use Rattle.qq_cluster.specs.Nodes.{IsQueueAt, Stands}
+use Rattle.qq_cluster.specs.declared.nodes.Nodes.{Nodes}
 use Rattle.qq_broker.specs.Lives.{Giving}
 use Rattle.qq_broker.specs.Nodes.{Holds, MayRun}
 use Rattle.qq_broker.proofs.GoingOn.{queue-there}

@@ -21,18 +21,18 @@ use Rattle.qq_log.specs.declared.op.Op.TheVariants.{Change, SnapshotMade, Segmen
 use Rattle.qq_ports.specs.Yard.{IsNew, IsOpened}
 use Rattle.qq_raft_msg.specs.Rpc.{IsNode}
 use Rattle.qq_raft_protocol.specs.Facts.{In}
-use Rattle.qq_setup.specs.declared.queue_row.QueueRow.{QueueRow}
-use Rattle.qq_setup.specs.declared.setup.Setup.{Setup}
-use Rattle.qq_setup.specs.Members.{member, members}
-use Rattle.qq_cluster.specs.Cluster.{new_cluster}
-use Rattle.qq_cluster.specs.ClusterLaws.{HasGroups}
-use Rattle.qq_cluster.specs.Laws.{IsBegun}
+use Rattle.qq_route.specs.declared.queue_row.QueueRow.{QueueRow}
+use Rattle.qq_route.specs.declared.setup.Setup.{Setup}
+use Rattle.qq_route.specs.Members.{member, members}
+use Rattle.qq_cluster_model.specs.Cluster.{new_cluster}
+use Rattle.qq_cluster_model.specs.ClusterLaws.{HasGroups}
+use Rattle.qq_cluster_model.specs.Laws.{IsBegun}
 use Rattle.qq_cluster_laws.specs.Waiting.{HasOwnGroups, IsChangeOf}
 use Rattle.qq_cluster_run.specs.Setup.{Logs, args_by, cluster_over, cluster_setup, group_over, is_change_of, members_by, name_by, new_logs, place_of, row_at}
 use Rattle.qq_cluster_run.proofs.QueueRows.{at-index, first-after, found-index, places-after}
-use Rattle.qq_nodes.specs.Nodes.{Stands}
-use Rattle.qq_nodes.specs.Setting.{AreNew, HaveDisks, IsRow, IsRowOf, IsSetupOver, IsWhole}
-use Rattle.qq_nodes.specs.declared.nodes.Nodes.{Nodes}
+use Rattle.qq_cluster.specs.Nodes.{Stands}
+use Rattle.qq_cluster.specs.Setting.{AreNew, HaveDisks, IsRow, IsRowOf, IsSetupOver, IsWhole}
+use Rattle.qq_cluster.specs.declared.nodes.Nodes.{Nodes}
 use Rattle.qq_opening.specs.Opening.{AreLogsOf, IsSetupWith}
 use Rattle.qq_wal.specs.Running.{MayRecover}
 use Rattle.qq_broker.specs.Lives.{Giving, IsGiven, under}

@@ -5,8 +5,8 @@ use Rattle.std.proofs.lemmas.List.Elements.{All-from_recursion}
 use Rattle.qq_entry.specs.declared.command.Unstamped.{Unstamped}
 use Rattle.qq_entry.specs.declared.command.Unstamped.TheVariants as bodies
 use Rattle.qq_entry.specs.Range.{IsContent, IsDeath}
-use Rattle.qq_cluster.specs.Lines.{publish_with}
-use Rattle.qq_cluster_queue.specs.Range.{MayStamp}
+use Rattle.qq_cluster_model.specs.Lines.{publish_with}
+use Rattle.qq_queue.specs.Range.{MayStamp}
 use Rattle.qq_cluster_run.specs.Named.{IsBody, IsShort}
 
 -- a body in range has them

@@ -19,19 +19,20 @@ use Rattle.qq_script_lines.specs.declared.line.ScriptLine.TheVariants.{Client}
 use Rattle.qq_session.specs.Clients.{may_hand}
 use Rattle.qq_session.specs.ExactlyOne.{ExactlyOne}
 use Rattle.qq_session.specs.Printed.{IsConfirmedPublish}
-use Rattle.qq_session.specs.Shown.{Shown, Answered, Attached, Delivered, Dropped, HasEnded, IsBusy, NoLeader, NotTaken, Taken, WindowFull}
+use Rattle.qq_session.specs.declared.shown.Shown.{Shown}
+use Rattle.qq_session.specs.declared.shown.Shown.TheVariants.{Answered, Attached, Delivered, Dropped, HasEnded, IsBusy, NoLeader, NotTaken, Taken, WindowFull}
 use Rattle.qq_taker.specs.declared.handed.Handed.{Handed}
 use Rattle.qq_taker.specs.declared.heard.Heard.{Heard}
 use Rattle.qq_taker.specs.declared.heard.Refusal.TheVariants as refusals
 use Rattle.qq_taker.specs.declared.heard.What.{What}
 use Rattle.qq_taker.specs.declared.heard.What.TheVariants.{Answer, Delivery, Refused}
-use Rattle.qq_cluster.specs.Cluster.{At, Cluster, ClusterEvent, Of, Printed, Setup, all_prints, cluster_after, new_cluster}
-use Rattle.qq_cluster.specs.ClusterLaws.{HasGroups, IsTrueOf, PrintsWhatIsTrue}
-use Rattle.qq_cluster.specs.Lines.{IsLine}
-use Rattle.qq_cluster.specs.Outcome.{all_heard, delivery_in, delivery_told}
-use Rattle.qq_cluster.specs.Queue.{Queue, Submits, TellsEnded, audit_rows, has_leader}
-use Rattle.qq_cluster.specs.Rules.{Is, IsClaimed, IsGiven, IsNothing, IsPump, if_so, is_ended, not_taken}
-use Rattle.qq_cluster.proofs.Outcomes.{prints-both}
+use Rattle.qq_cluster_model.specs.Cluster.{At, Cluster, ClusterEvent, Of, Printed, Setup, all_prints, cluster_after, new_cluster}
+use Rattle.qq_cluster_model.specs.ClusterLaws.{HasGroups, IsTrueOf, PrintsWhatIsTrue}
+use Rattle.qq_cluster_model.specs.Lines.{IsLine}
+use Rattle.qq_cluster_model.specs.Outcome.{all_heard, delivery_in, delivery_told}
+use Rattle.qq_cluster_model.specs.Queue.{Queue, Submits, TellsEnded, audit_rows, has_leader}
+use Rattle.qq_cluster_model.specs.Rules.{Is, IsClaimed, IsGiven, IsNothing, IsPump, if_so, is_ended, not_taken}
+use Rattle.qq_cluster_model.proofs.Outcomes.{prints-both}
 use Rattle.qq_cluster_run.specs.Serving.{after_all}
 use Rattle.qq_broker.specs.Calling.{Answers, IsCall, claimed_by, handed_to, heard_after, is_heard_at, outcome_at, outcome_heard, row_told}
 use Rattle.qq_broker.specs.declared.calling.Called.{Called}

@@ -15,9 +15,9 @@ use Rattle.qq_raft_model.specs.Server.{receive, tick, submit, notice}
 use Rattle.qq_raft_model.specs.State.{change, enter, say_all}
 use Rattle.qq_taker.specs.declared.handed.Handed.{Handed}
 use Rattle.qq_taker.specs.declared.heard.Heard.{Heard}
-use Rattle.qq_cluster.specs.Cluster.{cluster_after}
-use Rattle.qq_cluster.specs.Rules.{is_idle, most_rounds}
-use Rattle.qq_cluster.specs.Serving.{line}
+use Rattle.qq_cluster_model.specs.Cluster.{cluster_after}
+use Rattle.qq_cluster_model.specs.Rules.{is_idle, most_rounds}
+use Rattle.qq_cluster_model.specs.Serving.{line}
 use Rattle.qq_broker.specs.Broker.{is_done}
 use Rattle.qq_broker.specs.CallExample.{as_it_is_given, before_the_call, in_the_pump, two_queues}
 use Rattle.qq_broker.specs.Calling.{handed_heard, heard_after, others_heard, outcome_heard, rows_heard}

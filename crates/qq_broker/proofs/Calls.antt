@@ -10,22 +10,22 @@ use Rattle.qq_base.specs.declared.memory.Memory.TheVariants.{Want, Spent}
 use Rattle.qq_disk.specs.Facts.{DiskFacts}
 use Rattle.qq_entry.specs.declared.audit.AuditRow.{AuditRow}
 use Rattle.qq_entry.specs.declared.command.Unstamped.{Unstamped}
-use Rattle.qq_setup.specs.declared.setup.Setup.{Setup}
+use Rattle.qq_route.specs.declared.setup.Setup.{Setup}
 use Rattle.qq_taker.specs.Takers.{Takers, hear_on, take_heard}
 use Rattle.qq_taker.specs.declared.handed.Handed.{Handed}
 use Rattle.qq_taker.specs.declared.heard.Heard.{Heard}
-use Rattle.qq_cluster.specs.Cluster.{Cluster, ClusterEvent, Setup as ClusterSetup, all_prints, cluster_after, new_cluster}
-use Rattle.qq_cluster.specs.Outcome.{Outcome, all_heard, delivery_in, takers_after}
-use Rattle.qq_cluster.specs.Rules.{IsGiven, IsPump, is_idle, most_rounds}
-use Rattle.qq_cluster.proofs.Outcomes.{cluster-append, takers-both}
+use Rattle.qq_cluster_model.specs.Cluster.{Cluster, ClusterEvent, Setup as ClusterSetup, all_prints, cluster_after, new_cluster}
+use Rattle.qq_cluster_model.specs.Outcome.{Outcome, all_heard, delivery_in, takers_after}
+use Rattle.qq_cluster_model.specs.Rules.{IsGiven, IsPump, is_idle, most_rounds}
+use Rattle.qq_cluster_model.proofs.Outcomes.{cluster-append, takers-both}
 use Rattle.qq_cluster_laws.specs.Serves.{Serves}
 use Rattle.qq_cluster_run.specs.Serving.{Run, cluster_in, setup_in}
-use Rattle.qq_nodes.specs.Nodes.{GaveUp, Served, Stands, seen}
-use Rattle.qq_nodes.specs.declared.nodes.Nodes.{Nodes}
-use Rattle.qq_nodes.proofs.Joined.{Joined, served-join}
-use Rattle.qq_nodes.proofs.Outcomes.{outcome_after}
-use Rattle.qq_nodes.proofs.Stands.{gave_up-first, gave_up-second}
-use Rattle.qq_nodes.proofs.Total.{total-pumps}
+use Rattle.qq_cluster.specs.Nodes.{GaveUp, Served, Stands, seen}
+use Rattle.qq_cluster.specs.declared.nodes.Nodes.{Nodes}
+use Rattle.qq_cluster.proofs.Joined.{Joined, served-join}
+use Rattle.qq_cluster.proofs.Outcomes.{outcome_after}
+use Rattle.qq_cluster.proofs.Stands.{gave_up-first, gave_up-second}
+use Rattle.qq_cluster.proofs.Total.{total-pumps}
 use Rattle.qq_broker.specs.Broker.{Runs}
 use Rattle.qq_broker.specs.Calling.{HasCalled, HearsCall, IsCall, IsCallGivenUp, Sorts, StopsCall, handed_heard, heard_after, is_heard_at, outcome_heard, others_heard, row_told, rows_heard}
 use Rattle.qq_broker.specs.Lives.{Giving}

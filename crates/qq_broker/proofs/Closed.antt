@@ -2,7 +2,7 @@
 use Rattle.std.proofs.Common.{◌≡◌, ◌≤◌, ℕ, [], inr, subst}
 use Rattle.qq_disk.specs.Facts.{DiskFacts}
 use Rattle.qq_ports.specs.Streams.{SinkState, SourceState, Writes}
-use Rattle.qq_setup.specs.declared.setup.Setup.{Setup}
+use Rattle.qq_route.specs.declared.setup.Setup.{Setup}
 use Rattle.qq_cluster_run.specs.declared.stop.Stop.{Stop}
 use Rattle.qq_cluster_run.specs.Endings.{Ending}
 use Rattle.qq_cluster_run.specs.Runs.{Closes, HasRun, HasStopped, ending_of}

@@ -11,15 +11,15 @@ use Rattle.qq_ports.specs.declared.yard_fault.YardFault.TheVariants as yard_faul
 use Rattle.qq_script_lines.specs.declared.line.Nodes.{Nodes as Which}
 use Rattle.qq_script_lines.specs.declared.line.Nodes.TheVariants.{All, One}
 use Rattle.qq_script_lines.specs.declared.line.ScriptLine.TheVariants.{Crash}
-use Rattle.qq_setup.specs.declared.setup.Setup.{Setup}
-use Rattle.qq_cluster.specs.Cluster.{Cluster, ClusterEvent, Crashes, Printed, Setup as ClusterSetup, all_prints, cluster_happens}
-use Rattle.qq_cluster.specs.Lines.{IsLine}
-use Rattle.qq_cluster.specs.Rules.{ForEach, Is}
-use Rattle.qq_cluster.specs.Outcome.{Outcome, sees_prints}
-use Rattle.qq_cluster.specs.Texts.{printed_text}
+use Rattle.qq_route.specs.declared.setup.Setup.{Setup}
+use Rattle.qq_cluster_model.specs.Cluster.{Cluster, ClusterEvent, Crashes, Printed, Setup as ClusterSetup, all_prints, cluster_happens}
+use Rattle.qq_cluster_model.specs.Lines.{IsLine}
+use Rattle.qq_cluster_model.specs.Rules.{ForEach, Is}
+use Rattle.qq_cluster_model.specs.Outcome.{Outcome, sees_prints}
+use Rattle.qq_cluster_model.specs.Texts.{printed_text}
 use Rattle.qq_cluster_run.specs.Serving.{Run, cluster_in, setup_in}
 use Rattle.qq_cluster_run.proofs.Closings.{Rose_earlier}
-use Rattle.qq_nodes.specs.declared.nodes.Nodes.{Nodes}
+use Rattle.qq_cluster.specs.declared.nodes.Nodes.{Nodes}
 use Rattle.qq_broker.specs.Lives.{Giving}
 use Rattle.qq_broker.specs.Nodes.{Holds}
 use Rattle.qq_broker.specs.Serving.{IsServed, crashes, run_after, with_events}

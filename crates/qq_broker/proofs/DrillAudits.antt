@@ -8,20 +8,20 @@ use Rattle.sha2.specs.Hashers.{Holds256}
 use Rattle.sha2.specs.Sha256.{sha256}
 use Rattle.sha2.specs.declared.Sha256.{Sha256}
 use Rattle.qq_entry.specs.declared.audit.AuditRow.{AuditRow}
-use Rattle.qq_setup.specs.declared.queue_row.QueueRow.{QueueRow}
-use Rattle.qq_setup.specs.declared.setup.Setup.{Setup}
-use Rattle.qq_cluster.specs.Cluster.{Cluster, Setup as ClusterSetup}
-use Rattle.qq_cluster.specs.Confirmed.{is_confirmed_row}
-use Rattle.qq_cluster.specs.Queue.{audit_rows}
-use Rattle.qq_cluster.specs.Texts.{audits_text}
-use Rattle.qq_cluster_queue.specs.Tally.{count_rows, no_rows}
-use Rattle.qq_cluster_queue.specs.declared.tally.Tally.{Tally}
-use Rattle.qq_cluster_queue.proofs.Tallies.{counted-both}
+use Rattle.qq_route.specs.declared.queue_row.QueueRow.{QueueRow}
+use Rattle.qq_route.specs.declared.setup.Setup.{Setup}
+use Rattle.qq_cluster_model.specs.Cluster.{Cluster, Setup as ClusterSetup}
+use Rattle.qq_cluster_model.specs.Confirmed.{is_confirmed_row}
+use Rattle.qq_cluster_model.specs.Queue.{audit_rows}
+use Rattle.qq_cluster_model.specs.Texts.{audits_text}
+use Rattle.qq_queue.specs.Tally.{count_rows, no_rows}
+use Rattle.qq_queue.specs.declared.tally.Tally.{Tally}
+use Rattle.qq_queue.proofs.Tallies.{counted-both}
 use Rattle.qq_cluster_run.specs.Drilling.{Known, all_rows, drill_text, summary}
 use Rattle.qq_cluster_run.specs.Serving.{Run, cluster_in, setup_in}
 use Rattle.qq_cluster_run.specs.Setup.{place_of}
 use Rattle.qq_cluster_run.proofs.Audits.{audits_by_rows, row_audit}
-use Rattle.qq_nodes.specs.declared.nodes.Nodes.{Nodes}
+use Rattle.qq_cluster.specs.declared.nodes.Nodes.{Nodes}
 use Rattle.qq_broker.specs.Lives.{Giving}
 use Rattle.qq_broker.specs.Nodes.{Holds, MayRun}
 

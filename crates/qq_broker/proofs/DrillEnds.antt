@@ -2,11 +2,11 @@
 use Rattle.std.proofs.Common.{◌≡◌, ◌≤◌, ℕ, List, [], ◌++◌, Some, sym, ap, subst, ◌∙◌, inl, inr}
 use Rattle.qq_disk.specs.Facts.{DiskFacts}
 use Rattle.qq_ports.specs.Streams.{SinkState, SourceState, Writes}
-use Rattle.qq_setup.specs.declared.setup.Setup.{Setup}
+use Rattle.qq_route.specs.declared.setup.Setup.{Setup}
 use Rattle.qq_taker.specs.Takers.{Takers, listen}
 use Rattle.qq_taker.specs.declared.heard.Heard.{Heard}
-use Rattle.qq_cluster.specs.Cluster.{Setup as ClusterSetup, all_prints, new_cluster}
-use Rattle.qq_cluster.specs.Outcome.{Outcome, all_heard, deliveries_among}
+use Rattle.qq_cluster_model.specs.Cluster.{Setup as ClusterSetup, all_prints, new_cluster}
+use Rattle.qq_cluster_model.specs.Outcome.{Outcome, all_heard, deliveries_among}
 use Rattle.qq_cluster_run.proofs.Beginnings.{keeps-all}
 use Rattle.qq_cluster_run.specs.Drilling.{AreParts, Known, drill_text, first_known, is_led, know, part_lines, parts, tell}
 use Rattle.qq_cluster_run.specs.Drills.{HasDrilled, HasSummary}
@@ -20,7 +20,7 @@ use Rattle.qq_cluster_run.specs.Troubles.{Trouble}
 use Rattle.qq_cluster_run.specs.declared.drilling.Part.{Part}
 use Rattle.qq_cluster_run.specs.declared.playing.Play.{Play}
 use Rattle.qq_cluster_run.specs.declared.stop.AskStop.{AskStop}
-use Rattle.qq_nodes.specs.declared.nodes.Nodes.{Nodes}
+use Rattle.qq_cluster.specs.declared.nodes.Nodes.{Nodes}
 use Rattle.qq_broker.specs.Drilling.{IsSilent, PartsDone, PartsStop, Plays, ending_at, run_with}
 use Rattle.qq_broker.specs.Drills.{HasPlayed}
 use Rattle.qq_broker.specs.Lives.{Giving}

@@ -3,13 +3,13 @@ use Rattle.std.proofs.Common.{◌≡◌, ◌<◌, ◌+◌, ℕ, List, [], ◌∷
 use Rattle.std.proofs.lemmas.List.{drop_more, take-append-drop}
 use Rattle.qq_disk.specs.Facts.{DiskFacts}
 use Rattle.qq_script_lines.specs.declared.line.ScriptLine.{ScriptLine}
-use Rattle.qq_setup.specs.declared.setup.Setup.{Setup}
-use Rattle.qq_cluster.specs.Outcome.{Outcome}
+use Rattle.qq_route.specs.declared.setup.Setup.{Setup}
+use Rattle.qq_cluster_model.specs.Outcome.{Outcome}
 use Rattle.qq_cluster_run.specs.Drilling.{Known, know}
 use Rattle.qq_cluster_run.specs.Serving.{Run, cluster_in, setup_in}
 use Rattle.qq_cluster_run.specs.declared.drilling.Part.{Part}
 use Rattle.qq_cluster_run.specs.declared.playing.Play.{Play}
-use Rattle.qq_nodes.specs.declared.nodes.Nodes.{Nodes}
+use Rattle.qq_cluster.specs.declared.nodes.Nodes.{Nodes}
 use Rattle.qq_broker.specs.Drilling.{LinesServed, PartsDone, Plays, run_with}
 use Rattle.qq_broker.specs.Lives.{Giving}
 use Rattle.qq_broker.proofs.Drilled.{lines-more, lines-none, parts-more, parts-none}

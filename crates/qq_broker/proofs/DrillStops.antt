@@ -2,9 +2,9 @@
 use Rattle.std.proofs.Common.{◌≡◌, ◌≤◌, ℕ, Bool, List, [], ◌∷◌, ◌++◌, refl, sym, ap, subst, ◌∙◌, inl, inr, append-nil}
 use Rattle.qq_disk.specs.Facts.{DiskFacts}
 use Rattle.qq_script_lines.specs.declared.line.ScriptLine.{ScriptLine}
-use Rattle.qq_setup.specs.declared.setup.Setup.{Setup}
-use Rattle.qq_cluster.specs.Cluster.{ClusterEvent, Setup as ClusterSetup}
-use Rattle.qq_cluster.specs.Outcome.{Outcome}
+use Rattle.qq_route.specs.declared.setup.Setup.{Setup}
+use Rattle.qq_cluster_model.specs.Cluster.{ClusterEvent, Setup as ClusterSetup}
+use Rattle.qq_cluster_model.specs.Outcome.{Outcome}
 use Rattle.qq_cluster_run.proofs.Answering.{IsEarlier, may_stop_earlier}
 use Rattle.qq_cluster_run.specs.Drilling.{Known, is_led, part_lines}
 use Rattle.qq_cluster_run.specs.Drills.{StopsNext, StopsWithin}
@@ -16,7 +16,7 @@ use Rattle.qq_cluster_run.specs.declared.drilling.Part.{Part}
 use Rattle.qq_cluster_run.specs.declared.playing.Play.{Play}
 use Rattle.qq_cluster_run.specs.declared.stop.AskStop.{AskStop}
 use Rattle.qq_cluster_run.specs.declared.stop.AskStop.TheVariants.{Ended, NoMemory}
-use Rattle.qq_nodes.specs.declared.nodes.Nodes.{Nodes}
+use Rattle.qq_cluster.specs.declared.nodes.Nodes.{Nodes}
 use Rattle.qq_broker.specs.Drilling.{LinesServed, LinesStop, PartStops, PartsDone, PartsStop, Plays, ending_at, run_with}
 use Rattle.qq_broker.specs.Faults.{IsStepStopOf, step_stop}
 use Rattle.qq_broker.specs.Lives.{Giving}

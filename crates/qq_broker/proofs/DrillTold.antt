@@ -9,9 +9,9 @@ use Rattle.qq_log.specs.Stable.{Stable}
 use Rattle.qq_ports.specs.Streams.{SinkFails, Streams, Writes}
 use Rattle.qq_script_lines.specs.declared.line.ScriptLine.{ScriptLine}
 use Rattle.qq_script_lines.specs.declared.line.ScriptLine.TheVariants.{Attach, Crash, Restart}
-use Rattle.qq_setup.specs.Setup.{state_of}
-use Rattle.qq_setup.specs.declared.setup.Setup.{Setup}
-use Rattle.qq_cluster.specs.Cluster.{Cluster, ClusterEvent, Setup as ClusterSetup}
+use Rattle.qq_route.specs.Setup.{state_of}
+use Rattle.qq_route.specs.declared.setup.Setup.{Setup}
+use Rattle.qq_cluster_model.specs.Cluster.{Cluster, ClusterEvent, Setup as ClusterSetup}
 use Rattle.qq_cluster_run.specs.Drilling.{drill_setup, drill_text, parts}
 use Rattle.qq_cluster_run.specs.Drills.{DrillEnds, Drilled, HasDrilled, HasSummary, StopsNext, cluster_drilled, setup_drilled}
 use Rattle.qq_cluster_run.specs.Endings.{Ending, lost, no_memory, spent, yard_fault}

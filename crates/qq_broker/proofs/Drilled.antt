@@ -4,15 +4,15 @@ use Rattle.std.proofs.lemmas.List.{length-append}
 use Rattle.std.proofs.lemmas.List.Elements.{filter_map-append}
 use Rattle.qq_disk.specs.Facts.{DiskFacts}
 use Rattle.qq_script_lines.specs.declared.line.ScriptLine.{ScriptLine}
-use Rattle.qq_setup.specs.declared.setup.Setup.{Setup}
+use Rattle.qq_route.specs.declared.setup.Setup.{Setup}
 use Rattle.qq_taker.specs.Takers.{Takers}
 use Rattle.qq_taker.specs.declared.handed.Handed.{Handed}
 use Rattle.qq_taker.specs.declared.heard.Heard.{Heard}
 use Rattle.qq_drill.specs.Drill.{Drill}
-use Rattle.qq_cluster.specs.Cluster.{Cluster, ClusterEvent, Printed, Setup as ClusterSetup, all_prints, cluster_after, new_cluster}
-use Rattle.qq_cluster.specs.Lines.{IsLine, IsScript}
-use Rattle.qq_cluster.specs.Outcome.{Outcome, all_heard, deliveries_among, heard_in, takers_after}
-use Rattle.qq_cluster.specs.Texts.{text_of}
+use Rattle.qq_cluster_model.specs.Cluster.{Cluster, ClusterEvent, Printed, Setup as ClusterSetup, all_prints, cluster_after, new_cluster}
+use Rattle.qq_cluster_model.specs.Lines.{IsLine, IsScript}
+use Rattle.qq_cluster_model.specs.Outcome.{Outcome, all_heard, deliveries_among, heard_in, takers_after}
+use Rattle.qq_cluster_model.specs.Texts.{text_of}
 use Rattle.qq_cluster_run.proofs.Going.{after-both, prints-both, script-more, text-both}
 use Rattle.qq_cluster_run.proofs.Plays.{among-both, hear-both}
 use Rattle.qq_cluster_run.specs.Drilling.{AreParts, Known, begin_part, is_led, know, part_lines, tell}
@@ -20,7 +20,7 @@ use Rattle.qq_cluster_run.specs.Playing.{Knows}
 use Rattle.qq_cluster_run.specs.Serving.{Run, after_all, cluster_in, setup_in}
 use Rattle.qq_cluster_run.specs.declared.drilling.Part.{Part}
 use Rattle.qq_cluster_run.specs.declared.playing.Play.{Play}
-use Rattle.qq_nodes.specs.declared.nodes.Nodes.{Nodes}
+use Rattle.qq_cluster.specs.declared.nodes.Nodes.{Nodes}
 use Rattle.qq_broker.specs.Drilling.{IsSilent, LinesServed, PartsDone, Plays, run_with}
 use Rattle.qq_broker.specs.Lives.{Giving}
 use Rattle.qq_broker.specs.Nodes.{Holds}

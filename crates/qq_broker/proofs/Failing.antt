@@ -15,11 +15,11 @@ use Rattle.qq_script_lines.specs.declared.line.Nodes.TheVariants.{One, All}
 use Rattle.qq_script_lines.specs.declared.line.ScriptLine.{ScriptLine}
 use Rattle.qq_script_lines.specs.declared.line.ScriptLine.TheVariants as lines
 use Rattle.qq_entry.specs.declared.command.Unstamped.{Unstamped}
-use Rattle.qq_cluster.specs.Cluster.{Cluster, ClusterEvent, Setup, MutesEach, EndsEach, Sets, Alike, At, NodeWrites, NodeSyncs, Fails, Crashes, Shows, SaysDown, SaysNoSuch, SaysUnroutable, SaysBusy, SaysEnded, cluster_after, cluster_happens, members}
-use Rattle.qq_cluster.specs.Lines.{AndPumped, IsCopy, IsDeliver, IsDelivered, IsLine, IsLose, IsRouted, IsSend, WhereThere, WhereUp, nodes_of, publish_with, receiver_at}
-use Rattle.qq_cluster.specs.Queue.{Attaches, Copies, Delivers, Downs, Event, Fetches, Loses, Notices, Resends, Submits, TellsEnded, TellsNotTaken, Ticks}
-use Rattle.qq_cluster.specs.Rules.{ForEach, Is, IsClaimed, IsEmptied, IsEnd, IsFirstTick, IsFound, IsGiven, IsNodeRound, IsNotice, IsNothing, IsOpening, IsPump, IsPumped, IsResend, IsRestart, IsRound, IsSync, IsSynced, IsWrite, IsWritten, MayRoll, Pumps, Rule, Tells, Then, if_so, is_ended, is_idle, most_rounds, not_taken, some_queue, tick_at, waits_noticed, waits_synced, waits_written}
-use Rattle.qq_cluster.proofs.Takerless.{AreAt, GivesNone, emptied-at, tells-at}
+use Rattle.qq_cluster_model.specs.Cluster.{Cluster, ClusterEvent, Setup, MutesEach, EndsEach, Sets, Alike, At, NodeWrites, NodeSyncs, Fails, Crashes, Shows, SaysDown, SaysNoSuch, SaysUnroutable, SaysBusy, SaysEnded, cluster_after, cluster_happens, members}
+use Rattle.qq_cluster_model.specs.Lines.{AndPumped, IsCopy, IsDeliver, IsDelivered, IsLine, IsLose, IsRouted, IsSend, WhereThere, WhereUp, nodes_of, publish_with, receiver_at}
+use Rattle.qq_cluster_model.specs.Queue.{Attaches, Copies, Delivers, Downs, Event, Fetches, Loses, Notices, Resends, Submits, TellsEnded, TellsNotTaken, Ticks}
+use Rattle.qq_cluster_model.specs.Rules.{ForEach, Is, IsClaimed, IsEmptied, IsEnd, IsFirstTick, IsFound, IsGiven, IsNodeRound, IsNotice, IsNothing, IsOpening, IsPump, IsPumped, IsResend, IsRestart, IsRound, IsSync, IsSynced, IsWrite, IsWritten, MayRoll, Pumps, Rule, Tells, Then, if_so, is_ended, is_idle, most_rounds, not_taken, some_queue, tick_at, waits_noticed, waits_synced, waits_written}
+use Rattle.qq_cluster_model.proofs.Takerless.{AreAt, GivesNone, emptied-at, tells-at}
 use Rattle.qq_cluster_laws.proofs.Reached.{after-both}
 use Rattle.qq_cluster_laws.specs.Serves.{is_failure_at}
 use Rattle.qq_broker.specs.Lives.{failures}

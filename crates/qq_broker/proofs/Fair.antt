@@ -12,11 +12,11 @@ use Rattle.qq_script_lines.specs.declared.line.Nodes.{Nodes}
 use Rattle.qq_script_lines.specs.declared.line.ScriptLine.{ScriptLine}
 use Rattle.qq_script_lines.specs.declared.line.ScriptLine.TheVariants as lines
 use Rattle.qq_taker.specs.declared.handed.Handed.{Handed}
-use Rattle.qq_cluster.specs.Cluster.{Cluster, ClusterEvent, Setup, EndsEach, MutesEach, Sets, Alike, At, Crashes, FindsEach, Shows, SaysDown, SaysNoSuch, SaysUnroutable, SaysBusy, SaysEnded, cluster_after, cluster_happens, members}
-use Rattle.qq_cluster.specs.Lines.{AndPumped, IsCopy, IsDeliver, IsDelivered, IsLine, IsLose, IsRouted, IsRun, IsScript, IsSend, WhereThere, WhereUp, nodes_of, publish_with, receiver_at}
-use Rattle.qq_cluster.specs.Queue.{Attaches, Copies, Delivers, Downs, Event, Fetches, Judges, Loses, Notices, Resends, Submits, TellsEnded, TellsNotTaken, Ticks}
-use Rattle.qq_cluster.specs.Taking.{command_for}
-use Rattle.qq_cluster.specs.Rules.{ForEach, Is, IsClaimed, IsCommanded, IsEmptied, IsEnd, IsFirstTick, IsFound, IsGiven, IsJudgedWhere, IsNextJudged, IsNodeRound, IsNotice, IsNothing, IsOpening, IsPump, IsPumped, IsResend, IsRestart, IsRound, IsSync, IsSynced, IsTold, IsWrite, IsWritten, MayRoll, Pumps, Rule, Tells, Then, Times, if_so, is_ended, is_idle, may_find, most_rounds, not_taken, some_queue, tick_at, waits_noticed, waits_synced, waits_written}
+use Rattle.qq_cluster_model.specs.Cluster.{Cluster, ClusterEvent, Setup, EndsEach, MutesEach, Sets, Alike, At, Crashes, FindsEach, Shows, SaysDown, SaysNoSuch, SaysUnroutable, SaysBusy, SaysEnded, cluster_after, cluster_happens, members}
+use Rattle.qq_cluster_model.specs.Lines.{AndPumped, IsCopy, IsDeliver, IsDelivered, IsLine, IsLose, IsRouted, IsRun, IsScript, IsSend, WhereThere, WhereUp, nodes_of, publish_with, receiver_at}
+use Rattle.qq_cluster_model.specs.Queue.{Attaches, Copies, Delivers, Downs, Event, Fetches, Judges, Loses, Notices, Resends, Submits, TellsEnded, TellsNotTaken, Ticks}
+use Rattle.qq_cluster_model.specs.Taking.{command_for}
+use Rattle.qq_cluster_model.specs.Rules.{ForEach, Is, IsClaimed, IsCommanded, IsEmptied, IsEnd, IsFirstTick, IsFound, IsGiven, IsJudgedWhere, IsNextJudged, IsNodeRound, IsNotice, IsNothing, IsOpening, IsPump, IsPumped, IsResend, IsRestart, IsRound, IsSync, IsSynced, IsTold, IsWrite, IsWritten, MayRoll, Pumps, Rule, Tells, Then, Times, if_so, is_ended, is_idle, may_find, most_rounds, not_taken, some_queue, tick_at, waits_noticed, waits_synced, waits_written}
 use Rattle.qq_cluster_laws.specs.Unseen.{touched}
 
 -- it gives such a taker to a consumer, or none

@@ -10,9 +10,9 @@ use Rattle.qq_log.specs.Stable.{Stable, new_state, stable, then_apply}
 use Rattle.qq_model.proofs.Lists.{AllByRecursion-from_in}
 use Rattle.qq_raft_model.specs.Group.{Group, has_node, may_restart}
 use Rattle.qq_raft_protocol.proofs.Lists.{In-filter}
-use Rattle.qq_cluster.specs.Cluster.{Cluster, ClusterEvent, Setup, At, NodeWrites, NodeSyncs, Fails, Crashes, FindsEach, cluster_after, cluster_happens, members}
-use Rattle.qq_cluster.specs.ClusterLaws.{HasGroups}
-use Rattle.qq_cluster.specs.Rules.{may_find}
+use Rattle.qq_cluster_model.specs.Cluster.{Cluster, ClusterEvent, Setup, At, NodeWrites, NodeSyncs, Fails, Crashes, FindsEach, cluster_after, cluster_happens, members}
+use Rattle.qq_cluster_model.specs.ClusterLaws.{HasGroups}
+use Rattle.qq_cluster_model.specs.Rules.{may_find}
 use Rattle.qq_cluster_laws.specs.Linked.{IsReached, MembersFollow, lot_of}
 use Rattle.qq_cluster_laws.specs.Unseen.{is_node, sees}
 use Rattle.qq_cluster_laws.specs.Waiting.{ops_waiting, ops_with_waiting}
@@ -21,7 +21,7 @@ use Rattle.qq_cluster_laws.proofs.Reached.{group-made, made, reached-after}
 use Rattle.qq_cluster_laws.proofs.Seats.{nodes-same}
 use Rattle.qq_cluster_laws.proofs.Unseen.{unseen-follow}
 use Rattle.qq_broker.proofs.Fair.{AreFair, Fair}
-use Rattle.qq_nodes.proofs.Quiet.{all-in}
+use Rattle.qq_cluster.proofs.Quiet.{all-in}
 
 -- ---- first ops of ops that come to a state come to one
 

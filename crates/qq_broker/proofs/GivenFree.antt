@@ -4,20 +4,20 @@ use Rattle.qq_disk.specs.declared.image.Image.{Image}
 use Rattle.qq_base.specs.declared.ids.QueueId.{QueueId}
 use Rattle.qq_base.specs.declared.ids.SessionId.{SessionId}
 use Rattle.qq_disk.specs.Facts.{DiskFacts}
-use Rattle.qq_setup.specs.declared.setup.Setup.{Setup}
+use Rattle.qq_route.specs.declared.setup.Setup.{Setup}
 use Rattle.qq_script_lines.specs.declared.line.ScriptLine.{ScriptLine}
 use Rattle.qq_script_lines.specs.declared.line.ScriptLine.TheVariants.{Attach}
 use Rattle.qq_taker.specs.Takers.{Takers, is_free}
-use Rattle.qq_cluster.specs.Cluster.{At, Cluster, ClusterEvent, Setup as ClusterSetup, cluster_after, cluster_happens, new_cluster}
-use Rattle.qq_cluster.specs.Lines.{IsLine}
-use Rattle.qq_cluster.specs.Outcome.{Outcome, takers_after}
-use Rattle.qq_cluster.specs.Queue.{Attaches, Event}
-use Rattle.qq_cluster.specs.Rules.{IsOpening}
-use Rattle.qq_cluster.proofs.Outcomes.{takers-both}
+use Rattle.qq_cluster_model.specs.Cluster.{At, Cluster, ClusterEvent, Setup as ClusterSetup, cluster_after, cluster_happens, new_cluster}
+use Rattle.qq_cluster_model.specs.Lines.{IsLine}
+use Rattle.qq_cluster_model.specs.Outcome.{Outcome, takers_after}
+use Rattle.qq_cluster_model.specs.Queue.{Attaches, Event}
+use Rattle.qq_cluster_model.specs.Rules.{IsOpening}
+use Rattle.qq_cluster_model.proofs.Outcomes.{takers-both}
 use Rattle.qq_cluster_run.specs.Service.{HasOpened, HasServed}
 use Rattle.qq_cluster_run.specs.Serving.{Run, cluster_in, setup_in}
 use Rattle.qq_cluster_run.specs.Setup.{cluster_over}
-use Rattle.qq_nodes.specs.declared.nodes.Nodes.{Nodes}
+use Rattle.qq_cluster.specs.declared.nodes.Nodes.{Nodes}
 use Rattle.qq_broker.specs.Lives.{Giving}
 use Rattle.qq_broker.specs.Nodes.{Had, Holds}
 use Rattle.qq_broker.specs.Serving.{run_after}

@@ -19,12 +19,12 @@ use Rattle.qq_disk.proofs.Moments.{adds-none}
 use Rattle.qq_model.proofs.Soundness.{Contains-in}
 use Rattle.qq_raft_protocol.specs.Facts.{In}
 use Rattle.qq_script_lines.specs.declared.line.ScriptLine.{ScriptLine}
-use Rattle.qq_setup.specs.declared.setup.Setup.{Setup}
+use Rattle.qq_route.specs.declared.setup.Setup.{Setup}
 use Rattle.qq_taker.specs.Takers.{no_takers}
-use Rattle.qq_cluster.specs.Outcome.{Outcome}
-use Rattle.qq_cluster.specs.Cluster.{Cluster, ClusterEvent, Crashes, Setup as ClusterSetup, cluster_after, cluster_happens, new_cluster}
-use Rattle.qq_cluster.specs.Lines.{IsLine}
-use Rattle.qq_cluster.specs.Rules.{Is}
+use Rattle.qq_cluster_model.specs.Outcome.{Outcome}
+use Rattle.qq_cluster_model.specs.Cluster.{Cluster, ClusterEvent, Crashes, Setup as ClusterSetup, cluster_after, cluster_happens, new_cluster}
+use Rattle.qq_cluster_model.specs.Lines.{IsLine}
+use Rattle.qq_cluster_model.specs.Rules.{Is}
 use Rattle.qq_cluster_laws.specs.Linked.{IsLinked, IsPromised, IsReached}
 use Rattle.qq_cluster_laws.specs.Restarts.{first_restart}
 use Rattle.qq_cluster_laws.specs.Serves.{Seen, Serves, seen_of}
@@ -35,11 +35,11 @@ use Rattle.qq_cluster_laws.specs.Unseen.{sees}
 use Rattle.qq_cluster_run.specs.Endings.{spent}
 use Rattle.qq_cluster_run.specs.Serving.{EndsSpent, Run, after_all, cluster_in, setup_in}
 use Rattle.qq_node_log.specs.Log.{disk_in}
-use Rattle.qq_nodes.specs.Nodes.{Begins, CanServe, EndsAt, GaveUp, IsNodeAt, IsQueueAt, Served, Stands, seen}
-use Rattle.qq_nodes.specs.Crashing.{HasHappened, LeavesDisks}
-use Rattle.qq_nodes.specs.declared.node.Node.{Node}
-use Rattle.qq_nodes.specs.declared.nodes.Nodes.{Nodes}
-use Rattle.qq_nodes.proofs.OwnStands.{seen-own}
+use Rattle.qq_cluster.specs.Nodes.{Begins, CanServe, EndsAt, GaveUp, IsNodeAt, IsQueueAt, Served, Stands, seen}
+use Rattle.qq_cluster.specs.Crashing.{HasHappened, LeavesDisks}
+use Rattle.qq_cluster.specs.declared.node.Node.{Node}
+use Rattle.qq_cluster.specs.declared.nodes.Nodes.{Nodes}
+use Rattle.qq_cluster.proofs.OwnStands.{seen-own}
 use Rattle.qq_broker.specs.Lives.{Became, Giving, IsLeft, IsOneDisk, RoseBy, failures}
 use Rattle.qq_broker.specs.Nodes.{Had, Holds, IsDiskOf, Meets}
 use Rattle.qq_broker.specs.Serving.{AreThere, IsGivenUp, IsServed, run_after, with_events}

@@ -8,22 +8,22 @@ use Rattle.std.proofs.lemmas.Option.{slice_get_cases, slice_get_within}
 use Rattle.qq_base.specs.Causes.{Rose}
 use Rattle.qq_disk.specs.Facts.{DiskFacts}
 use Rattle.qq_raft_protocol.specs.Facts.{In}
-use Rattle.qq_setup.specs.declared.setup.Setup.{Setup}
+use Rattle.qq_route.specs.declared.setup.Setup.{Setup}
 use Rattle.qq_taker.specs.Takers.{Takers}
-use Rattle.qq_cluster.specs.Outcome.{Outcome}
-use Rattle.qq_cluster.specs.Cluster.{ClusterEvent, Setup as ClusterSetup, cluster_after, new_cluster}
-use Rattle.qq_cluster.specs.ClusterLaws.{HasGroups}
+use Rattle.qq_cluster_model.specs.Outcome.{Outcome}
+use Rattle.qq_cluster_model.specs.Cluster.{ClusterEvent, Setup as ClusterSetup, cluster_after, new_cluster}
+use Rattle.qq_cluster_model.specs.ClusterLaws.{HasGroups}
 use Rattle.qq_cluster_laws.specs.Serves.{GivesUp, Seen, seen_of}
 use Rattle.qq_cluster_laws.proofs.Serves.{gives_up-behind, gives_up-same}
 use Rattle.qq_cluster_run.specs.Service.{HasOpened}
 use Rattle.qq_cluster_run.specs.Setup.{cluster_over, cluster_setup}
-use Rattle.qq_nodes.specs.Disks.{GiveDisks}
-use Rattle.qq_nodes.specs.Nodes.{EachHasLog, Stands, seen, seen_in}
-use Rattle.qq_nodes.specs.Setting.{HaveDisks}
-use Rattle.qq_nodes.specs.declared.node.Node.{Node}
-use Rattle.qq_nodes.specs.declared.nodes.Nodes.{Nodes}
-use Rattle.qq_nodes.proofs.OwnStands.{seen-own}
-use Rattle.qq_nodes.proofs.Stands.{stands-logs}
+use Rattle.qq_cluster.specs.Disks.{GiveDisks}
+use Rattle.qq_cluster.specs.Nodes.{EachHasLog, Stands, seen, seen_in}
+use Rattle.qq_cluster.specs.Setting.{HaveDisks}
+use Rattle.qq_cluster.specs.declared.node.Node.{Node}
+use Rattle.qq_cluster.specs.declared.nodes.Nodes.{Nodes}
+use Rattle.qq_cluster.proofs.OwnStands.{seen-own}
+use Rattle.qq_cluster.proofs.Stands.{stands-logs}
 use Rattle.qq_opening.specs.Opening.{MayNotOpen as NodesMayNotOpen, OpensOver, OpensTo, all_of}
 use Rattle.qq_opening.specs.Restarting.{IsOpenedTo}
 use Rattle.qq_opening.specs.declared.restarting.RestartFault.{RestartFault}

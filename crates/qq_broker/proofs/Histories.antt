@@ -12,8 +12,8 @@ use Rattle.qq_disk.specs.Image.{IsNewestLog, image_of}
 use Rattle.qq_disk.specs.Moments.{Adds}
 use Rattle.qq_raft_protocol.specs.Facts.{In}
 use Rattle.qq_raft_protocol.proofs.Lists.{In-map}
-use Rattle.qq_cluster.specs.Cluster.{Cluster, ClusterEvent, At, Crashes, Fails, Of, SaysBusy, SaysDown, SaysEnded, SaysNoSuch, SaysUnroutable, Setup, Shows, State, Stopped, all_prints, cluster_after, cluster_happens, members_in_order, new_cluster, prints, state_at}
-use Rattle.qq_cluster.specs.Queue.{said}
+use Rattle.qq_cluster_model.specs.Cluster.{Cluster, ClusterEvent, At, Crashes, Fails, Of, SaysBusy, SaysDown, SaysEnded, SaysNoSuch, SaysUnroutable, Setup, Shows, State, Stopped, all_prints, cluster_after, cluster_happens, members_in_order, new_cluster, prints, state_at}
+use Rattle.qq_cluster_model.specs.Queue.{said}
 use Rattle.qq_cluster_laws.specs.Linked.{IsLinked}
 use Rattle.qq_cluster_laws.specs.Restarts.{first_restart}
 use Rattle.qq_cluster_laws.specs.Serves.{fails_at, is_failure_at}

@@ -25,8 +25,8 @@ use Rattle.qq_wal.specs.Running.{top}
 use Rattle.qq_wal_chain.specs.Image.{HasNoJunk}
 use Rattle.qq_wal_chain.specs.Lanes.{Lanes}
 use Rattle.qq_wal_chain.specs.Laws.{IsHonestImage, KeepsPromise}
-use Rattle.qq_cluster.specs.Cluster.{Cluster, ClusterEvent, Crashes, FindsEach, Setup, cluster_after, cluster_happens, new_cluster}
-use Rattle.qq_cluster.specs.ClusterLaws.{HasGroups}
+use Rattle.qq_cluster_model.specs.Cluster.{Cluster, ClusterEvent, Crashes, FindsEach, Setup, cluster_after, cluster_happens, new_cluster}
+use Rattle.qq_cluster_model.specs.ClusterLaws.{HasGroups}
 use Rattle.qq_cluster_laws.specs.Linked.{IsLinked, IsPromised, lot_of, parts_at}
 use Rattle.qq_cluster_laws.specs.Restarts.{first_of, first_restart}
 use Rattle.qq_cluster_laws.specs.Traced.{HasNoCrash, IsFair, IsNoCrash, IsTracedAt, KeepsWhere}

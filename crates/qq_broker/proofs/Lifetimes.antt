@@ -7,7 +7,7 @@ use Rattle.std.proofs.lemmas.List.Folds.{list_any-append}
 use Rattle.qq_base.proofs.Lists.{AllByRecursion-append}
 use Rattle.qq_disk.specs.declared.image.Image.{Image}
 use Rattle.qq_disk.specs.Facts.{DiskFacts}
-use Rattle.qq_cluster.specs.Cluster.{Cluster, ClusterEvent, Crashes, Setup, cluster_after, cluster_happens}
+use Rattle.qq_cluster_model.specs.Cluster.{Cluster, ClusterEvent, Crashes, Setup, cluster_after, cluster_happens}
 use Rattle.qq_cluster_laws.specs.Restarts.{first_restart}
 use Rattle.qq_cluster_laws.specs.Serves.{fails_at, is_failure_at}
 use Rattle.qq_cluster_laws.specs.Traced.{HasNoCrash, IsNoCrash}

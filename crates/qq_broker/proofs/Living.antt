@@ -7,7 +7,7 @@ use Rattle.qq_disk.specs.declared.image.Image.{Image}
 use Rattle.qq_disk.specs.Disk.{now}
 use Rattle.qq_disk.specs.Facts.{DiskFacts}
 use Rattle.qq_disk.proofs.Moments.{adds-none}
-use Rattle.qq_cluster.specs.Cluster.{Cluster, ClusterEvent, Sets, Alike, At, NodeWrites, NodeSyncs, Fails, Crashes, FindsEach, Shows, SaysDown, SaysNoSuch, SaysUnroutable, SaysBusy, SaysEnded, Setup, cluster_after, cluster_happens}
+use Rattle.qq_cluster_model.specs.Cluster.{Cluster, ClusterEvent, Sets, Alike, At, NodeWrites, NodeSyncs, Fails, Crashes, FindsEach, Shows, SaysDown, SaysNoSuch, SaysUnroutable, SaysBusy, SaysEnded, Setup, cluster_after, cluster_happens}
 use Rattle.qq_cluster_laws.specs.Linked.{IsLinked, IsPromised}
 use Rattle.qq_cluster_laws.specs.Restarts.{first_restart}
 use Rattle.qq_cluster_laws.specs.Serves.{fails_at, is_failure_at}

@@ -5,9 +5,9 @@ use Rattle.std.specs.Io.KnownBytes.{IsAtEnd}
 use Rattle.qq_disk.specs.Facts.{DiskFacts}
 use Rattle.qq_ports.specs.Lines.{BeginsTooLong, FirstLineLeads, LosesPiece, LosesSome, TakesLine, ahead, first_line}
 use Rattle.qq_ports.specs.Streams.{SinkState, Streams, Writes, WritesPart}
-use Rattle.qq_setup.specs.declared.setup.Setup.{Setup}
+use Rattle.qq_route.specs.declared.setup.Setup.{Setup}
 use Rattle.qq_taker.specs.Takers.{Takers}
-use Rattle.qq_cluster.specs.Outcome.{Outcome}
+use Rattle.qq_cluster_model.specs.Outcome.{Outcome}
 use Rattle.qq_cluster_run.specs.declared.stop.AskStop.{AskStop}
 use Rattle.qq_cluster_run.specs.declared.stop.Stop.{Stop}
 use Rattle.qq_cluster_run.specs.Answers.{Answers, HasAnswerCause, IsServedToEnd}
@@ -18,7 +18,7 @@ use Rattle.qq_cluster_run.specs.Serving.{Claims, Histories}
 use Rattle.qq_cluster_run.proofs.Ahead.{Going, going_reads, going_stops, going_too_long, waiting_breaks}
 use Rattle.qq_cluster_run.proofs.Answering.{IsSoAt, answer_stops}
 use Rattle.qq_cluster_run.proofs.Looping.{LoopsOn, loops_end, loops_line, loops_written}
-use Rattle.qq_nodes.specs.declared.nodes.Nodes.{Nodes}
+use Rattle.qq_cluster.specs.declared.nodes.Nodes.{Nodes}
 use Rattle.qq_broker.specs.Lives.{Giving}
 use Rattle.qq_broker.specs.Takers.{HoldsAll, RunClaims, RunHad, RunMeets}
 use Rattle.qq_broker.proofs.Meeting.{run-earlier}

@@ -16,12 +16,12 @@ use Rattle.qq_raft_model.specs.Group.{has_node}
 use Rattle.qq_raft_protocol.specs.Facts.{In}
 use Rattle.qq_recover.specs.Reading.{lanes_read, shown}
 use Rattle.qq_recover.specs.Recovery.{IsReadable}
-use Rattle.qq_setup.specs.declared.setup.Setup.{Setup}
-use Rattle.qq_setup.specs.Setup.{state_of}
+use Rattle.qq_route.specs.declared.setup.Setup.{Setup}
+use Rattle.qq_route.specs.Setup.{state_of}
 use Rattle.qq_wal.specs.Running.{top}
 use Rattle.qq_wal_chain.specs.Lanes.{IsStateOf, Lanes}
 use Rattle.qq_wal_chain.specs.Laws.{KeepsPromise}
-use Rattle.qq_cluster.specs.Cluster.{Setup as ClusterSetup, members}
+use Rattle.qq_cluster_model.specs.Cluster.{Setup as ClusterSetup, members}
 use Rattle.qq_cluster_laws.specs.Linked.{lot_of}
 use Rattle.qq_cluster_laws.specs.Restarts.{first_restart}
 use Rattle.qq_cluster_run.specs.Inputs.{Input}

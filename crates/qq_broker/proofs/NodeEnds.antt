@@ -12,19 +12,19 @@ use Rattle.qq_session.specs.Publishing.{open_commands}
 use Rattle.qq_log.specs.declared.op.Op.{Op}
 use Rattle.qq_wal.specs.Batch.{encodings}
 use Rattle.qq_wal_chain.specs.Laws.{op_records}
-use Rattle.qq_cluster.specs.Cluster.{ClusterEvent, Setup}
-use Rattle.qq_cluster.specs.Queue.{Queue, leader, submits}
+use Rattle.qq_cluster_model.specs.Cluster.{ClusterEvent, Setup}
+use Rattle.qq_cluster_model.specs.Queue.{Queue, leader, submits}
 use Rattle.qq_cluster_laws.specs.Serves.{Seen, seen_of}
 use Rattle.qq_cluster_laws.specs.Waiting.{all_waiting}
-use Rattle.qq_cluster_queue.proofs.MemberEnds.{AtBag, AtNumber, HasEnd, IsFull}
-use Rattle.qq_cluster_queue.proofs.QueueEnds.{OfClient, OfGroup, QueueEnds}
+use Rattle.qq_queue.proofs.MemberEnds.{AtBag, AtNumber, HasEnd, IsFull}
+use Rattle.qq_queue.proofs.QueueEnds.{OfClient, OfGroup, QueueEnds}
 use Rattle.qq_cluster_run.specs.Serving.{after_all}
 use Rattle.qq_node_log.specs.Log.{disk_in}
 use Rattle.qq_node_log.specs.declared.node_log.NodeLog.{NodeLog}
-use Rattle.qq_nodes.specs.Ends.{HasLog}
-use Rattle.qq_nodes.specs.Nodes.{InFile, InNumbers, InQueue, NumberAt, node_at, seen_in, seen_log}
-use Rattle.qq_nodes.proofs.AskEnds.{refused-ends}
-use Rattle.qq_nodes.proofs.Walks.{in-range}
+use Rattle.qq_cluster.specs.Ends.{HasLog}
+use Rattle.qq_cluster.specs.Nodes.{InFile, InNumbers, InQueue, NumberAt, node_at, seen_in, seen_log}
+use Rattle.qq_cluster.proofs.EventEnds.{refused-ends}
+use Rattle.qq_cluster.proofs.Walks.{in-range}
 use Rattle.qq_broker.specs.Lives.{Became, Giving}
 use Rattle.qq_broker.specs.Nodes.{HasNumber}
 

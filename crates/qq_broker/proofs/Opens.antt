@@ -19,12 +19,12 @@ use Rattle.qq_raft_model.specs.Group.{has_node}
 use Rattle.qq_raft_protocol.specs.Facts.{In}
 use Rattle.qq_raft_protocol.proofs.Lists.{In-filter}
 use Rattle.qq_recover.specs.Reading.{lanes_read, shown}
-use Rattle.qq_setup.specs.declared.queue_row.QueueRow.{QueueRow}
-use Rattle.qq_setup.specs.declared.setup.Setup.{Setup}
+use Rattle.qq_route.specs.declared.queue_row.QueueRow.{QueueRow}
+use Rattle.qq_route.specs.declared.setup.Setup.{Setup}
 use Rattle.qq_wal_chain.specs.Lanes.{Lanes}
-use Rattle.qq_cluster.specs.Outcome.{Outcome}
-use Rattle.qq_cluster.specs.Cluster.{Cluster, ClusterEvent, Setup as ClusterSetup, cluster_after, members, new_cluster}
-use Rattle.qq_cluster.specs.ClusterLaws.{HasGroups}
+use Rattle.qq_cluster_model.specs.Outcome.{Outcome}
+use Rattle.qq_cluster_model.specs.Cluster.{Cluster, ClusterEvent, Setup as ClusterSetup, cluster_after, members, new_cluster}
+use Rattle.qq_cluster_model.specs.ClusterLaws.{HasGroups}
 use Rattle.qq_cluster_laws.specs.Linked.{lot_of}
 use Rattle.qq_cluster_laws.specs.Restarts.{first_restart}
 use Rattle.qq_cluster_laws.specs.Serves.{Seen, Serves}
@@ -32,10 +32,10 @@ use Rattle.qq_cluster_run.specs.Endings.{Ending, yard_fault}
 use Rattle.qq_cluster_run.specs.Runs.{MayNotOpen}
 use Rattle.qq_cluster_run.specs.Service.{HasOpened}
 use Rattle.qq_cluster_run.specs.Setup.{Logs, cluster_over, cluster_setup, new_logs}
-use Rattle.qq_nodes.specs.Nodes.{Stands, seen}
-use Rattle.qq_nodes.specs.Setting.{ids_on, is_among}
-use Rattle.qq_nodes.specs.declared.nodes.Nodes.{Nodes}
-use Rattle.qq_nodes.proofs.Begun.{ids-are}
+use Rattle.qq_cluster.specs.Nodes.{Stands, seen}
+use Rattle.qq_cluster.specs.Setting.{ids_on, is_among}
+use Rattle.qq_cluster.specs.declared.nodes.Nodes.{Nodes}
+use Rattle.qq_cluster.proofs.Begun.{ids-are}
 use Rattle.qq_opening.specs.Opening.{AreReadLogs, HoldLogs, IsReadAs, IsSetupWith, OpensOver, OpensTo, all_of, state_read}
 use Rattle.qq_opening.specs.Restarting.{IsOpenedTo}
 use Rattle.qq_broker.specs.Lives.{Became, BeginsBy, Giving, IsGiven, failures, log_at}

@@ -20,12 +20,12 @@ use Rattle.qq_script_lines.specs.declared.line.Nodes.{Nodes as Which}
 use Rattle.qq_script_lines.specs.declared.line.Nodes.TheVariants.{All, One}
 use Rattle.qq_script_lines.specs.declared.line.ScriptLine.{ScriptLine}
 use Rattle.qq_script_lines.specs.declared.line.ScriptLine.TheVariants.{Restart}
-use Rattle.qq_setup.specs.declared.setup.Setup.{Setup}
+use Rattle.qq_route.specs.declared.setup.Setup.{Setup}
 use Rattle.qq_wal_chain.specs.Lanes.{Lanes}
-use Rattle.qq_cluster.specs.Outcome.{Outcome}
-use Rattle.qq_cluster.specs.Cluster.{Cluster, ClusterEvent, Setup as ClusterSetup, cluster_after, new_cluster}
-use Rattle.qq_cluster.specs.Lines.{IsLine}
-use Rattle.qq_cluster.specs.Rules.{ForEach, IsOpening, IsRestart}
+use Rattle.qq_cluster_model.specs.Outcome.{Outcome}
+use Rattle.qq_cluster_model.specs.Cluster.{Cluster, ClusterEvent, Setup as ClusterSetup, cluster_after, new_cluster}
+use Rattle.qq_cluster_model.specs.Lines.{IsLine}
+use Rattle.qq_cluster_model.specs.Rules.{ForEach, IsOpening, IsRestart}
 use Rattle.qq_cluster_laws.specs.Linked.{lot_of}
 use Rattle.qq_cluster_laws.specs.Restarts.{first_restart}
 use Rattle.qq_cluster_laws.specs.Serves.{Seen}
@@ -37,9 +37,9 @@ use Rattle.qq_cluster_run.specs.Service.{HasServeCause}
 use Rattle.qq_cluster_run.specs.Serving.{EndsDamaged, EndsLost, MayTakeUp, RestartsTo, Run, after_all, cluster_in, setup_in}
 use Rattle.qq_cluster_run.specs.Setup.{name_by, row_at}
 use Rattle.qq_cluster_run.specs.Troubles.{AtPlace, Damage, OfVersion, Trouble, damage_ending}
-use Rattle.qq_nodes.specs.Nodes.{Served, Stands, seen}
+use Rattle.qq_cluster.specs.Nodes.{Served, Stands, seen}
 use Rattle.qq_opening.specs.Restarting.{IsLostAt, IsRefused, Refuses, RestartsTo as RestartedTo, all_nodes, lanes_at, this_node}
-use Rattle.qq_nodes.specs.declared.nodes.Nodes.{Nodes}
+use Rattle.qq_cluster.specs.declared.nodes.Nodes.{Nodes}
 use Rattle.qq_opening.specs.declared.restarting.RestartFault.{RestartFault}
 use Rattle.qq_opening.specs.declared.restarting.RestartFault.TheVariants as faults_of
 use Rattle.qq_broker.specs.Broker.{MayNotReopen}

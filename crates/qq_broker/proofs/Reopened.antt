@@ -7,19 +7,19 @@ use Rattle.qq_disk.specs.Crash.{Remains, reopen}
 use Rattle.qq_disk.specs.declared.image.Image.{Image}
 use Rattle.qq_disk.specs.Facts.{DiskFacts}
 use Rattle.qq_raft_protocol.specs.Facts.{In}
-use Rattle.qq_setup.specs.declared.setup.Setup.{Setup}
-use Rattle.qq_setup.specs.Setup.{state_of}
-use Rattle.qq_cluster.specs.Outcome.{Outcome}
-use Rattle.qq_cluster.specs.Cluster.{Cluster, ClusterEvent, Setup as ClusterSetup, cluster_after}
-use Rattle.qq_cluster.specs.Rules.{IsOpening}
+use Rattle.qq_route.specs.declared.setup.Setup.{Setup}
+use Rattle.qq_route.specs.Setup.{state_of}
+use Rattle.qq_cluster_model.specs.Outcome.{Outcome}
+use Rattle.qq_cluster_model.specs.Cluster.{Cluster, ClusterEvent, Setup as ClusterSetup, cluster_after}
+use Rattle.qq_cluster_model.specs.Rules.{IsOpening}
 use Rattle.qq_cluster_laws.specs.Serves.{GivesUp, Seen, Serves}
 use Rattle.qq_cluster_laws.proofs.Serves.{gives_up-behind, gives_up-same}
 use Rattle.qq_cluster_run.specs.Serving.{Run, cluster_in, setup_in}
-use Rattle.qq_nodes.specs.Disks.{GetDisks}
-use Rattle.qq_nodes.specs.Nodes.{CanServe, EachHasLog, HaveLogs, Served, Stands, seen}
-use Rattle.qq_nodes.specs.Setting.{HaveDisks}
-use Rattle.qq_nodes.specs.declared.nodes.Nodes.{Nodes}
-use Rattle.qq_nodes.proofs.Stands.{stands-logs}
+use Rattle.qq_cluster.specs.Disks.{GetDisks}
+use Rattle.qq_cluster.specs.Nodes.{CanServe, EachHasLog, HaveLogs, Served, Stands, seen}
+use Rattle.qq_cluster.specs.Setting.{HaveDisks}
+use Rattle.qq_cluster.specs.declared.nodes.Nodes.{Nodes}
+use Rattle.qq_cluster.proofs.Stands.{stands-logs}
 use Rattle.qq_opening.specs.Restarting.{IsReopening, Refuses, all_nodes}
 use Rattle.qq_opening.specs.declared.restarting.RestartFault.{RestartFault}
 use Rattle.qq_opening.proofs.Reopened.{none-recovered, reopening-opens}

@@ -5,10 +5,10 @@ use Rattle.qq_disk.specs.declared.image.Image.{Image}
 use Rattle.qq_disk.specs.Disk.{now}
 use Rattle.qq_disk.specs.Facts.{DiskFacts}
 use Rattle.qq_raft_protocol.specs.Facts.{In}
-use Rattle.qq_setup.specs.Setup.{SetupState}
+use Rattle.qq_route.specs.Setup.{SetupState}
 use Rattle.qq_wal_chain.specs.Image.{HasNoJunk}
-use Rattle.qq_cluster.specs.Cluster.{Crashes}
-use Rattle.qq_cluster.specs.ClusterLaws.{HasGroups}
+use Rattle.qq_cluster_model.specs.Cluster.{Crashes}
+use Rattle.qq_cluster_model.specs.ClusterLaws.{HasGroups}
 use Rattle.qq_cluster_laws.specs.Linked.{IsPromised}
 use Rattle.qq_cluster_run.specs.Serving.{Run}
 use Rattle.qq_broker.specs.Broker.{Rests, cluster_at, seen_among, seen_disk, setup_at}

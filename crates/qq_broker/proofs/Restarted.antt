@@ -10,11 +10,11 @@ use Rattle.qq_defs.specs.Runnable.{IsRunnable}
 use Rattle.qq_raft_model.specs.Group.{has_node}
 use Rattle.qq_raft_model.specs.Promises.{members_of}
 use Rattle.qq_raft_protocol.specs.Facts.{In}
-use Rattle.qq_setup.specs.declared.queue_row.QueueRow.{QueueRow}
-use Rattle.qq_setup.specs.declared.setup.Setup.{Setup}
-use Rattle.qq_setup.specs.Setup.{state_of}
-use Rattle.qq_cluster.specs.Cluster.{Cluster, ClusterEvent, Setup as ClusterSetup, cluster_after, members, new_cluster}
-use Rattle.qq_cluster.specs.Rules.{ForEach, IsRestart}
+use Rattle.qq_route.specs.declared.queue_row.QueueRow.{QueueRow}
+use Rattle.qq_route.specs.declared.setup.Setup.{Setup}
+use Rattle.qq_route.specs.Setup.{state_of}
+use Rattle.qq_cluster_model.specs.Cluster.{Cluster, ClusterEvent, Setup as ClusterSetup, cluster_after, members, new_cluster}
+use Rattle.qq_cluster_model.specs.Rules.{ForEach, IsRestart}
 use Rattle.qq_cluster_laws.specs.Linked.{lot_of}
 use Rattle.qq_cluster_laws.specs.Restarts.{first_of, first_restart}
 use Rattle.qq_cluster_laws.proofs.Restarts.{first-both}

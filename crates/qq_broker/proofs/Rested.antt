@@ -12,7 +12,7 @@ use Rattle.qq_base.specs.declared.ids.QueueId.{QueueId}
 use Rattle.qq_base.specs.declared.memory.Memory.{Memory}
 use Rattle.qq_base.specs.declared.memory.TheConstants.{NUMBER_END}
 use Rattle.qq_disk.specs.Facts.{DiskFacts}
-use Rattle.qq_cluster_queue.specs.declared.cluster_queue.ClusterQueue.{ClusterQueue}
+use Rattle.qq_queue.specs.declared.cluster_queue.ClusterQueue.{ClusterQueue}
 use Rattle.qq_entry.specs.declared.audit.AuditRow.{AuditRow}
 use Rattle.qq_entry.specs.declared.command.Entry.{Entry}
 use Rattle.qq_entry.specs.declared.queue.QueueArgs.{QueueArgs}
@@ -20,20 +20,20 @@ use Rattle.qq_model.specs.Audit.{audit_of, stays_within}
 use Rattle.qq_model.specs.State.{empty_queue}
 use Rattle.qq_raft_protocol.specs.Facts.{In}
 use Rattle.qq_script.specs.Audit.{audit_text}
-use Rattle.qq_setup.specs.Setup.{SetupState, state_of}
-use Rattle.qq_cluster.specs.Cluster.{Cluster, ClusterEvent, Crashes, Setup as ClusterSetup, cluster_after, cluster_happens, new_cluster}
-use Rattle.qq_cluster.specs.Queue.{Queue, Stops, audit_rows, happens}
+use Rattle.qq_route.specs.Setup.{SetupState, state_of}
+use Rattle.qq_cluster_model.specs.Cluster.{Cluster, ClusterEvent, Crashes, Setup as ClusterSetup, cluster_after, cluster_happens, new_cluster}
+use Rattle.qq_cluster_model.specs.Queue.{Queue, Stops, audit_rows, happens}
 use Rattle.qq_cluster_laws.specs.Linked.{IsPromised}
 use Rattle.qq_cluster_laws.specs.Restarts.{first_restart}
 use Rattle.qq_cluster_laws.specs.Serves.{Seen, seen_of}
 use Rattle.qq_cluster_laws.specs.Traced.{IsTracedAt}
 use Rattle.qq_cluster_run.specs.Serving.{Run, after_all, cluster_in, setup_in}
-use Rattle.qq_nodes.specs.Disks.{GiveDisks}
-use Rattle.qq_nodes.specs.Nodes.{EachHasLog, IsQueueAt, Stands, seen}
-use Rattle.qq_nodes.specs.Setting.{HaveDisks}
-use Rattle.qq_nodes.specs.Stopping.{crashes_with}
-use Rattle.qq_nodes.specs.declared.nodes.Nodes.{Nodes}
-use Rattle.qq_nodes.proofs.Stands.{stands-logs}
+use Rattle.qq_cluster.specs.Disks.{GiveDisks}
+use Rattle.qq_cluster.specs.Nodes.{EachHasLog, IsQueueAt, Stands, seen}
+use Rattle.qq_cluster.specs.Setting.{HaveDisks}
+use Rattle.qq_cluster.specs.Stopping.{crashes_with}
+use Rattle.qq_cluster.specs.declared.nodes.Nodes.{Nodes}
+use Rattle.qq_cluster.proofs.Stands.{stands-logs}
 use Rattle.qq_broker.specs.Broker.{IsPastEnd, Rests, Runs, cluster_at, setup_at}
 use Rattle.qq_broker.specs.Lives.{Became, Giving, IsOneDisk, disk_at}
 use Rattle.qq_broker.specs.Nodes.{IsDiskOf}

@@ -17,20 +17,20 @@ use Rattle.qq_node_log.specs.Log.{IsWhole, disk_in}
 use Rattle.qq_node_log.specs.declared.node_log.NodeLog.{NodeLog}
 use Rattle.qq_node_log.specs.declared.node_log.NodeLog.TheVariants.{Closed}
 use Rattle.qq_raft_protocol.specs.Facts.{In}
-use Rattle.qq_setup.specs.declared.setup.Setup.{Setup}
-use Rattle.qq_setup.specs.Setup.{state_of}
-use Rattle.qq_cluster.specs.Cluster.{Cluster, ClusterEvent, Crashes, Setup as ClusterSetup, cluster_after, cluster_happens, new_cluster}
+use Rattle.qq_route.specs.declared.setup.Setup.{Setup}
+use Rattle.qq_route.specs.Setup.{state_of}
+use Rattle.qq_cluster_model.specs.Cluster.{Cluster, ClusterEvent, Crashes, Setup as ClusterSetup, cluster_after, cluster_happens, new_cluster}
 use Rattle.qq_cluster_laws.specs.Linked.{lot_of}
 use Rattle.qq_cluster_laws.specs.Restarts.{first_restart}
 use Rattle.qq_cluster_laws.proofs.Reached.{after-both}
 use Rattle.qq_cluster_run.specs.Serving.{Run, after_all, cluster_in, setup_in}
-use Rattle.qq_nodes.specs.Disks.{GetDisks, GivesDisk}
-use Rattle.qq_nodes.specs.Nodes.{IsNodeOf, IsSetUp, Stands}
-use Rattle.qq_nodes.specs.Setting.{HaveDisks}
-use Rattle.qq_nodes.specs.Stopping.{crashes_with}
-use Rattle.qq_nodes.specs.declared.node.Node.{Node}
-use Rattle.qq_nodes.specs.declared.nodes.Nodes.{Nodes}
-use Rattle.qq_nodes.proofs.OwnStands.{seen-own}
+use Rattle.qq_cluster.specs.Disks.{GetDisks, GivesDisk}
+use Rattle.qq_cluster.specs.Nodes.{IsNodeOf, IsSetUp, Stands}
+use Rattle.qq_cluster.specs.Setting.{HaveDisks}
+use Rattle.qq_cluster.specs.Stopping.{crashes_with}
+use Rattle.qq_cluster.specs.declared.node.Node.{Node}
+use Rattle.qq_cluster.specs.declared.nodes.Nodes.{Nodes}
+use Rattle.qq_cluster.proofs.OwnStands.{seen-own}
 use Rattle.qq_wal.specs.Running.{MayRecover}
 use Rattle.qq_broker.specs.Broker.{ComeBack, Rests, crashed_events}
 use Rattle.qq_broker.specs.Lives.{Became, Giving, IsLeft, disk_at}

@@ -4,8 +4,8 @@ use Rattle.std.specs.Prelude.{Contains}
 use Rattle.std.proofs.lemmas.Bool.{cond-true, eq-eqb}
 use Rattle.std.proofs.lemmas.List.{length-map}
 use Rattle.std.proofs.lemmas.List.Elements.{Contains-get_or}
-use Rattle.qq_setup.specs.declared.queue_row.QueueRow.{QueueRow}
-use Rattle.qq_setup.specs.declared.setup.Setup.{Setup}
+use Rattle.qq_route.specs.declared.queue_row.QueueRow.{QueueRow}
+use Rattle.qq_route.specs.declared.setup.Setup.{Setup}
 use Rattle.qq_cluster_run.specs.Serving.{Run, setup_in}
 use Rattle.qq_cluster_run.specs.Setup.{first_place, name_by, place_of, row_at}
 use Rattle.qq_cluster_run.proofs.QueueRows.{rows-are}

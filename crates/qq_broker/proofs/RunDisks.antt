@@ -7,9 +7,9 @@ use Rattle.qq_disk.specs.Facts.{DiskFacts}
 use Rattle.qq_raft_protocol.specs.Facts.{In}
 use Rattle.qq_script_lines.specs.declared.line.Nodes.{Nodes}
 use Rattle.qq_script_lines.specs.declared.line.ScriptLine.TheVariants as lines
-use Rattle.qq_setup.specs.declared.setup.Setup.{Setup}
+use Rattle.qq_route.specs.declared.setup.Setup.{Setup}
 use Rattle.qq_wal_chain.specs.Image.{HasNoJunk}
-use Rattle.qq_cluster.specs.Cluster.{new_cluster}
+use Rattle.qq_cluster_model.specs.Cluster.{new_cluster}
 use Rattle.qq_cluster_laws.specs.Linked.{IsLinked}
 use Rattle.qq_cluster_run.specs.Inputs.{Input}
 use Rattle.qq_cluster_run.specs.Serving.{Behind, cluster_behind, setup_behind}

@@ -3,15 +3,15 @@ use Rattle.std.proofs.Common.{◌≡◌, ℕ, Bool, List, ◌++◌, ap, sym, sub
 use Rattle.qq_disk.specs.Facts.{DiskFacts}
 use Rattle.qq_script_lines.specs.declared.line.ScriptLine.{ScriptLine}
 use Rattle.qq_script_lines.specs.declared.line.ScriptLine.TheVariants.{Pump}
-use Rattle.qq_cluster.specs.Cluster.{Cluster, ClusterEvent, Setup as ClusterSetup}
+use Rattle.qq_cluster_model.specs.Cluster.{Cluster, ClusterEvent, Setup as ClusterSetup}
 use Rattle.qq_taker.specs.Takers.{Takers}
-use Rattle.qq_cluster.specs.Lines.{IsLine}
-use Rattle.qq_cluster.specs.Outcome.{Outcome, takers_after}
-use Rattle.qq_cluster.specs.Texts.{text_of}
-use Rattle.qq_cluster.specs.Rules.{IsPump, is_idle}
+use Rattle.qq_cluster_model.specs.Lines.{IsLine}
+use Rattle.qq_cluster_model.specs.Outcome.{Outcome, takers_after}
+use Rattle.qq_cluster_model.specs.Texts.{text_of}
+use Rattle.qq_cluster_model.specs.Rules.{IsPump, is_idle}
 use Rattle.qq_cluster_laws.specs.Linked.{IsReached}
 use Rattle.qq_cluster_run.specs.Serving.{Run, cluster_in, setup_in}
-use Rattle.qq_nodes.specs.Nodes.{Served, Stands}
+use Rattle.qq_cluster.specs.Nodes.{Served, Stands}
 use Rattle.qq_broker.specs.Broker.{HasPumped, HasStepped, Runs, is_done, told_of}
 use Rattle.qq_broker.specs.Lives.{Giving}
 use Rattle.qq_broker.specs.Nodes.{Holds}

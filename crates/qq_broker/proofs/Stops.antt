@@ -9,7 +9,7 @@ use Rattle.qq_ports.specs.declared.yard_fault.YardFault.{YardFault}
 use Rattle.qq_ports.specs.declared.yard_fault.YardFault.TheVariants as yard_faults
 use Rattle.qq_script_lines.specs.declared.line.Nodes.{Nodes as Which}
 use Rattle.qq_script_lines.specs.declared.line.ScriptLine.TheVariants.{Crash}
-use Rattle.qq_setup.specs.declared.setup.Setup.{Setup}
+use Rattle.qq_route.specs.declared.setup.Setup.{Setup}
 use Rattle.qq_cluster_run.specs.declared.stop.AskStop.{AskStop}
 use Rattle.qq_cluster_run.specs.declared.stop.AskStop.TheVariants.{NoMemory}
 use Rattle.qq_cluster_run.specs.Service.{HasServeCause}

@@ -9,9 +9,9 @@ use Rattle.qq_base.specs.declared.ids.QueueId.{QueueId}
 use Rattle.qq_raft_protocol.specs.Facts.{In}
 use Rattle.qq_defs.specs.Runnable.{AreQueuesAfter, IsNumber}
 use Rattle.qq_route.specs.Routes.{ExchangeState, Table, comes_to, queue_id, targets}
-use Rattle.qq_setup.specs.declared.queue_row.QueueRow.{QueueRow}
-use Rattle.qq_setup.specs.declared.setup.Setup.{Setup}
-use Rattle.qq_setup.specs.Setup.{state_of}
+use Rattle.qq_route.specs.declared.queue_row.QueueRow.{QueueRow}
+use Rattle.qq_route.specs.declared.setup.Setup.{Setup}
+use Rattle.qq_route.specs.Setup.{state_of}
 use Rattle.qq_cluster_run.specs.Setup.{place_of}
 use Rattle.qq_cluster_run.proofs.QueueRows.{places-after}
 use Rattle.qq_broker.specs.Nodes.{MayRun}

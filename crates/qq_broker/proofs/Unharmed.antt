@@ -14,12 +14,12 @@ use Rattle.qq_raft_model.specs.Refines.{number}
 use Rattle.qq_raft_protocol.specs.Facts.{In}
 use Rattle.qq_script_lines.specs.declared.line.Nodes.{Nodes}
 use Rattle.qq_script_lines.specs.declared.line.ScriptLine.TheVariants as lines
-use Rattle.qq_setup.specs.declared.setup.Setup.{Setup}
-use Rattle.qq_setup.specs.Setup.{state_of}
+use Rattle.qq_route.specs.declared.setup.Setup.{Setup}
+use Rattle.qq_route.specs.Setup.{state_of}
 use Rattle.qq_wal_chain.specs.Image.{HasNoJunk}
-use Rattle.qq_cluster.specs.Cluster.{ClusterEvent, Setup as ClusterSetup, members, new_cluster}
-use Rattle.qq_cluster.specs.ClusterLaws.{HasGroups}
-use Rattle.qq_cluster.specs.Rules.{ForEach, IsRestart}
+use Rattle.qq_cluster_model.specs.Cluster.{ClusterEvent, Setup as ClusterSetup, members, new_cluster}
+use Rattle.qq_cluster_model.specs.ClusterLaws.{HasGroups}
+use Rattle.qq_cluster_model.specs.Rules.{ForEach, IsRestart}
 use Rattle.qq_cluster_laws.specs.Linked.{MembersFollow}
 use Rattle.qq_cluster_laws.specs.Restarts.{first_restart}
 use Rattle.qq_cluster_laws.proofs.Links.{new-follow}

@@ -21,12 +21,12 @@ use Rattle.qq_raft_protocol.specs.Facts.{In}
 use Rattle.qq_recover.specs.Reading.{lanes_read, shown}
 use Rattle.qq_recover.specs.declared.fault.RecoverFault.{RecoverFault}
 use Rattle.qq_recover.specs.declared.fault.RecoverFault.TheVariants as recover_faults
-use Rattle.qq_setup.specs.declared.setup.Setup.{Setup}
+use Rattle.qq_route.specs.declared.setup.Setup.{Setup}
 use Rattle.qq_wal_chain.specs.Lanes.{Lanes}
-use Rattle.qq_cluster.specs.Cluster.{ClusterEvent, Setup as ClusterSetup, cluster_after, members, new_cluster}
-use Rattle.qq_cluster.specs.ClusterLaws.{HasGroups}
-use Rattle.qq_cluster.specs.Laws.{IsBegun}
-use Rattle.qq_cluster.specs.Rules.{IsOpening}
+use Rattle.qq_cluster_model.specs.Cluster.{ClusterEvent, Setup as ClusterSetup, cluster_after, members, new_cluster}
+use Rattle.qq_cluster_model.specs.ClusterLaws.{HasGroups}
+use Rattle.qq_cluster_model.specs.Laws.{IsBegun}
+use Rattle.qq_cluster_model.specs.Rules.{IsOpening}
 use Rattle.qq_cluster_laws.specs.Restarts.{first_restart}
 use Rattle.qq_cluster_laws.specs.Serves.{Seen, seen_of}
 use Rattle.qq_cluster_laws.specs.Unseen.{sees}
@@ -37,10 +37,10 @@ use Rattle.qq_cluster_run.specs.Runs.{MayNotOpen, ending_of, stop_of}
 use Rattle.qq_cluster_run.specs.Serving.{EndsSpent, EndsUnsupported, IsReadOf, state_read}
 use Rattle.qq_cluster_run.specs.Setup.{Logs, cluster_over, cluster_setup, group_over, is_change_of, members_by, name_by, new_logs, row_at}
 use Rattle.qq_cluster_run.specs.Troubles.{AtPlace, Damage, OfVersion, Trouble, damage_ending}
-use Rattle.qq_nodes.specs.Nodes.{Begins, EndsAt, Stands, node_at, seen, seen_in, seen_log}
-use Rattle.qq_nodes.specs.Setting.{ids_on, is_among}
-use Rattle.qq_nodes.specs.declared.node.Node.{Node}
-use Rattle.qq_nodes.specs.declared.nodes.Nodes.{Nodes}
+use Rattle.qq_cluster.specs.Nodes.{Begins, EndsAt, Stands, node_at, seen, seen_in, seen_log}
+use Rattle.qq_cluster.specs.Setting.{ids_on, is_among}
+use Rattle.qq_cluster.specs.declared.node.Node.{Node}
+use Rattle.qq_cluster.specs.declared.nodes.Nodes.{Nodes}
 use Rattle.qq_node_log.specs.Log.{disk_in}
 use Rattle.qq_node_log.specs.declared.node_log.NodeLog.{NodeLog}
 use Rattle.qq_opening.specs.Opening.{IsLostOver, IsOpenCaused, IsReadAs, IsRefusedOver, IsSetupWith, MayNotOpen as NodesMayNotOpen, SpentOver, all_of, state_read as lanes_state}

@@ -6,8 +6,8 @@ use Rattle.qq_disk.specs.Disk.{now}
 use Rattle.qq_disk.specs.Facts.{DiskFacts}
 use Rattle.qq_disk.proofs.Moments.{adds-none}
 use Rattle.qq_raft_protocol.specs.Facts.{In}
-use Rattle.qq_cluster.specs.Cluster.{Cluster, ClusterEvent, Fails, Crashes, FindsEach, Setup, cluster_after, cluster_happens}
-use Rattle.qq_cluster.specs.Rules.{ForEach, IsFound, IsNothing, IsRestart, if_so}
+use Rattle.qq_cluster_model.specs.Cluster.{Cluster, ClusterEvent, Fails, Crashes, FindsEach, Setup, cluster_after, cluster_happens}
+use Rattle.qq_cluster_model.specs.Rules.{ForEach, IsFound, IsNothing, IsRestart, if_so}
 use Rattle.qq_cluster_laws.specs.Linked.{IsLinked, IsPromised}
 use Rattle.qq_cluster_laws.specs.Restarts.{first_of, first_restart, restarted_by}
 use Rattle.qq_cluster_laws.specs.Serves.{is_failure_at}

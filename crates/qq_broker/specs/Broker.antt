@@ -10,13 +10,13 @@ use Rattle.qq_script_lines.specs.declared.line.ScriptLine.{ScriptLine}
 use Rattle.qq_script_lines.specs.declared.line.ScriptLine.TheVariants.{Pump}
 use Rattle.qq_taker.specs.Takers.{Takers}
 use Rattle.qq_defs.specs.Runnable.{IsRunnable}
-use Rattle.qq_setup.specs.declared.setup.Setup.{Setup}
-use Rattle.qq_setup.specs.Setup.{SetupState}
-use Rattle.qq_cluster.specs.Cluster.{Cluster, ClusterEvent, Setup as ClusterSetup, cluster_after}
-use Rattle.qq_cluster.specs.Queue.{Queue}
-use Rattle.qq_cluster.specs.Rules.{IsOpening, is_idle}
-use Rattle.qq_cluster.specs.Outcome.{Outcome, takers_after}
-use Rattle.qq_cluster.specs.Texts.{text_of}
+use Rattle.qq_route.specs.declared.setup.Setup.{Setup}
+use Rattle.qq_route.specs.Setup.{SetupState}
+use Rattle.qq_cluster_model.specs.Cluster.{Cluster, ClusterEvent, Setup as ClusterSetup, cluster_after}
+use Rattle.qq_cluster_model.specs.Queue.{Queue}
+use Rattle.qq_cluster_model.specs.Rules.{IsOpening, is_idle}
+use Rattle.qq_cluster_model.specs.Outcome.{Outcome, takers_after}
+use Rattle.qq_cluster_model.specs.Texts.{text_of}
 use Rattle.qq_cluster_laws.specs.Restarts.{first_restart}
 use Rattle.qq_cluster_laws.specs.Serves.{GivesUp, Seen, seen_of}
 use Rattle.qq_cluster_run.specs.declared.stop.AskStop.{AskStop}
@@ -25,11 +25,11 @@ use Rattle.qq_cluster_run.specs.Service.{HasServed}
 use Rattle.qq_cluster_run.specs.Serving.{EndsDamaged, EndsLost, EndsSpent, Histories, Run, after_all, setup_in}
 use Rattle.qq_cluster_run.specs.Setup.{cluster_of}
 use Rattle.qq_cluster_run.specs.Troubles.{Trouble}
-use Rattle.qq_nodes.specs.Disks.{GiveDisks}
-use Rattle.qq_nodes.specs.Nodes.{Stands}
-use Rattle.qq_nodes.specs.Setting.{HaveDisks}
-use Rattle.qq_nodes.specs.Stopping.{crashes_with}
-use Rattle.qq_nodes.specs.declared.nodes.Nodes.{Nodes}
+use Rattle.qq_cluster.specs.Disks.{GiveDisks}
+use Rattle.qq_cluster.specs.Nodes.{Stands}
+use Rattle.qq_cluster.specs.Setting.{HaveDisks}
+use Rattle.qq_cluster.specs.Stopping.{crashes_with}
+use Rattle.qq_cluster.specs.declared.nodes.Nodes.{Nodes}
 use Rattle.qq_opening.specs.Opening.{GivesUpOver}
 use Rattle.qq_opening.specs.Restarting.{IsReopening}
 use Rattle.qq_broker.specs.Faults.{stop_for}

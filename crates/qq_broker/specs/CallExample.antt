@@ -6,10 +6,10 @@ use Rattle.qq_entry.specs.declared.command.Unstamped.{Unstamped}
 use Rattle.qq_entry.specs.declared.command.Unstamped.TheVariants.{Subscribe}
 use Rattle.qq_script_lines.specs.declared.line.ScriptLine.{ScriptLine}
 use Rattle.qq_script_lines.specs.declared.line.ScriptLine.TheVariants.{Client, Pace, Send}
-use Rattle.qq_cluster.specs.Cluster.{Cluster, ClusterEvent, Setup, cluster_after, new_cluster}
-use Rattle.qq_cluster.specs.Example.{at_queue, name_of, setup_of}
-use Rattle.qq_cluster.specs.Lines.{publish_with}
-use Rattle.qq_cluster.specs.Serving.{all_given, give, pump, run}
+use Rattle.qq_cluster_model.specs.Cluster.{Cluster, ClusterEvent, Setup, cluster_after, new_cluster}
+use Rattle.qq_cluster_model.specs.Example.{at_queue, name_of, setup_of}
+use Rattle.qq_cluster_model.specs.Lines.{publish_with}
+use Rattle.qq_cluster_model.specs.Serving.{all_given, give, pump, run}
 
 abbrev pub two_queues : Setup
 two_queues = setup_of 1 2

@@ -15,16 +15,16 @@ use Rattle.qq_taker.specs.declared.heard.Refusal.{Refusal}
 use Rattle.qq_taker.specs.declared.heard.Refusal.TheVariants as refusals
 use Rattle.qq_taker.specs.declared.heard.What.{What}
 use Rattle.qq_taker.specs.declared.heard.What.TheVariants.{Answer, Refused}
-use Rattle.qq_cluster.specs.Cluster.{Cluster, ClusterEvent, Setup as ClusterSetup, all_prints, cluster_after}
-use Rattle.qq_cluster.specs.Outcome.{Outcome, all_heard, deliveries_among, takers_after}
-use Rattle.qq_cluster.specs.Queue.{Queue, has_leader}
-use Rattle.qq_cluster.specs.Rules.{IsGiven, IsPump, Rule, Then, is_ended, is_idle, not_taken}
+use Rattle.qq_cluster_model.specs.Cluster.{Cluster, ClusterEvent, Setup as ClusterSetup, all_prints, cluster_after}
+use Rattle.qq_cluster_model.specs.Outcome.{Outcome, all_heard, deliveries_among, takers_after}
+use Rattle.qq_cluster_model.specs.Queue.{Queue, has_leader}
+use Rattle.qq_cluster_model.specs.Rules.{IsGiven, IsPump, Rule, Then, is_ended, is_idle, not_taken}
 use Rattle.qq_cluster_laws.specs.Linked.{IsReached}
 use Rattle.qq_cluster_run.specs.Endings.{spent}
 use Rattle.qq_cluster_run.specs.Serving.{EndsSpent, Run, cluster_in, setup_in}
 use Rattle.qq_cluster_run.specs.Troubles.{Trouble}
-use Rattle.qq_nodes.specs.Nodes.{EndsAt, Served, Stands}
-use Rattle.qq_nodes.specs.declared.nodes.Nodes.{Nodes}
+use Rattle.qq_cluster.specs.Nodes.{EndsAt, Served, Stands}
+use Rattle.qq_cluster.specs.declared.nodes.Nodes.{Nodes}
 use Rattle.qq_broker.specs.Broker.{Runs, is_done}
 use Rattle.qq_broker.specs.Lives.{Giving}
 use Rattle.qq_broker.specs.Nodes.{Had}

@@ -2,10 +2,10 @@
 use Rattle.std.specs.Prelude.{◌≡◌, ℕ, List, [], ◌∷◌, ◌++◌, Some}
 use Rattle.qq_disk.specs.Facts.{DiskFacts}
 use Rattle.qq_script_lines.specs.declared.line.ScriptLine.{ScriptLine}
-use Rattle.qq_setup.specs.declared.setup.Setup.{Setup}
-use Rattle.qq_cluster.specs.Cluster.{ClusterEvent}
-use Rattle.qq_cluster.specs.Lines.{IsScript}
-use Rattle.qq_cluster.specs.Outcome.{Outcome}
+use Rattle.qq_route.specs.declared.setup.Setup.{Setup}
+use Rattle.qq_cluster_model.specs.Cluster.{ClusterEvent}
+use Rattle.qq_cluster_model.specs.Lines.{IsScript}
+use Rattle.qq_cluster_model.specs.Outcome.{Outcome}
 use Rattle.qq_cluster_run.specs.Drilling.{AreParts, Known, is_led, know, part_lines}
 use Rattle.qq_cluster_run.specs.Drills.{StopsWithin}
 use Rattle.qq_cluster_run.specs.Endings.{Ending}
@@ -15,7 +15,7 @@ use Rattle.qq_cluster_run.specs.Serving.{Run, cluster_in, setup_in}
 use Rattle.qq_cluster_run.specs.declared.drilling.Part.{Part}
 use Rattle.qq_cluster_run.specs.declared.playing.Play.{Play}
 use Rattle.qq_cluster_run.specs.declared.stop.AskStop.{AskStop}
-use Rattle.qq_nodes.specs.declared.nodes.Nodes.{Nodes}
+use Rattle.qq_cluster.specs.declared.nodes.Nodes.{Nodes}
 use Rattle.qq_broker.specs.Lives.{Giving}
 use Rattle.qq_broker.specs.Nodes.{Had, Holds, Meets}
 use Rattle.qq_broker.specs.Serving.{with_events}

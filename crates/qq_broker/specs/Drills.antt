@@ -2,8 +2,8 @@
 use Rattle.std.specs.Prelude.{◌⊎◌, ℕ, List}
 use Rattle.qq_disk.specs.Facts.{DiskFacts}
 use Rattle.qq_ports.specs.Streams.{SinkState, Writes}
-use Rattle.qq_setup.specs.declared.setup.Setup.{Setup}
-use Rattle.qq_cluster.specs.Cluster.{ClusterEvent}
+use Rattle.qq_route.specs.declared.setup.Setup.{Setup}
+use Rattle.qq_cluster_model.specs.Cluster.{ClusterEvent}
 use Rattle.qq_cluster_run.specs.Drilling.{AreParts, Known, drill_text}
 use Rattle.qq_cluster_run.specs.Drills.{HasSummary}
 use Rattle.qq_cluster_run.specs.Runs.{Closes}

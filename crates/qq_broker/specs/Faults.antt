@@ -3,7 +3,7 @@ use Rattle.std.specs.Prelude.{◌≡◌, ℕ}
 use Rattle.qq_ports.specs.declared.yard_fault.YardFault.{YardFault}
 use Rattle.qq_ports.specs.declared.yard_fault.YardFault.TheVariants as yard_faults
 use Rattle.qq_script_lines.specs.declared.fault.ScriptFault.TheVariants.{NoSuch}
-use Rattle.qq_setup.specs.declared.setup.Setup.{Setup}
+use Rattle.qq_route.specs.declared.setup.Setup.{Setup}
 use Rattle.qq_cluster_run.specs.declared.stop.AskStop.{AskStop}
 use Rattle.qq_cluster_run.specs.declared.stop.AskStop.TheVariants.{Ended}
 use Rattle.qq_cluster_run.specs.Endings.{damaged, lost, other_version, refusal, yard_fault}

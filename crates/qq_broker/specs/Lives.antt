@@ -11,7 +11,7 @@ use Rattle.qq_ports.specs.Yard.{IsAfterCrash, IsNew, IsOpened}
 use Rattle.qq_raft_protocol.specs.Facts.{In}
 use Rattle.qq_recover.specs.Reading.{lanes_read, shown}
 use Rattle.qq_wal_chain.specs.Lanes.{Lanes}
-use Rattle.qq_cluster.specs.Cluster.{Cluster, ClusterEvent, Crashes, Setup, cluster_after, cluster_happens, new_cluster}
+use Rattle.qq_cluster_model.specs.Cluster.{Cluster, ClusterEvent, Crashes, Setup, cluster_after, cluster_happens, new_cluster}
 use Rattle.qq_cluster_laws.specs.Linked.{IsLinked, lot_of}
 use Rattle.qq_cluster_laws.specs.Restarts.{first_restart}
 use Rattle.qq_cluster_laws.specs.Serves.{is_failure_at}

@@ -11,17 +11,17 @@ use Rattle.qq_recover.specs.Reading.{lanes_read, shown}
 use Rattle.qq_recover.specs.declared.fault.RecoverFault.{RecoverFault}
 use Rattle.qq_recover.specs.declared.fault.RecoverFault.TheVariants as recover_faults
 use Rattle.qq_defs.specs.Runnable.{IsRunnable}
-use Rattle.qq_setup.specs.declared.setup.Setup.{Setup}
-use Rattle.qq_setup.specs.Setup.{state_of}
+use Rattle.qq_route.specs.declared.setup.Setup.{Setup}
+use Rattle.qq_route.specs.Setup.{state_of}
 use Rattle.qq_wal_chain.specs.Lanes.{Lanes}
-use Rattle.qq_cluster.specs.Cluster.{ClusterEvent, Setup as ClusterSetup}
+use Rattle.qq_cluster_model.specs.Cluster.{ClusterEvent, Setup as ClusterSetup}
 use Rattle.qq_cluster_laws.specs.Linked.{lot_of}
 use Rattle.qq_cluster_laws.specs.Restarts.{first_restart}
 use Rattle.qq_cluster_laws.specs.Serves.{seen_of}
 use Rattle.qq_cluster_run.specs.Serving.{Histories, Run, after_all, cluster_in, setup_in}
 use Rattle.qq_cluster_run.specs.Troubles.{Damage, AtPlace, OfVersion, Trouble, YardFails, DiskFails, FilesBreak, QueueIsFound, NumberEnds, TakerIsGone}
-use Rattle.qq_nodes.specs.Nodes.{NumberAt, Stands, seen}
-use Rattle.qq_nodes.specs.declared.nodes.Nodes.{Nodes}
+use Rattle.qq_cluster.specs.Nodes.{NumberAt, Stands, seen}
+use Rattle.qq_cluster.specs.declared.nodes.Nodes.{Nodes}
 use Rattle.qq_broker.specs.Lives.{Became, Giving, IsGiven}
 
 -- a setup that nodes may be opened with

@@ -11,10 +11,10 @@ use Rattle.qq_ports.specs.declared.yard_fault.YardFault.{YardFault}
 use Rattle.qq_ports.specs.declared.yard_fault.YardFault.TheVariants as yard_faults
 use Rattle.qq_raft_protocol.specs.Facts.{In}
 use Rattle.qq_script_lines.specs.declared.line.ScriptLine.{ScriptLine}
-use Rattle.qq_setup.specs.declared.setup.Setup.{Setup}
-use Rattle.qq_cluster.specs.Cluster.{ClusterEvent, Crashes, Setup as ClusterSetup, new_cluster}
-use Rattle.qq_cluster.specs.Lines.{IsLine}
-use Rattle.qq_cluster.specs.Outcome.{Outcome}
+use Rattle.qq_route.specs.declared.setup.Setup.{Setup}
+use Rattle.qq_cluster_model.specs.Cluster.{ClusterEvent, Crashes, Setup as ClusterSetup, new_cluster}
+use Rattle.qq_cluster_model.specs.Lines.{IsLine}
+use Rattle.qq_cluster_model.specs.Outcome.{Outcome}
 use Rattle.qq_cluster_run.specs.declared.stop.AskStop.{AskStop}
 use Rattle.qq_cluster_run.specs.declared.stop.AskStop.TheVariants.{Ended, NoMemory}
 use Rattle.qq_cluster_run.specs.Endings.{Ending, damaged, lost, no_memory, other_version, spent, yard_fault}
@@ -22,9 +22,9 @@ use Rattle.qq_cluster_run.specs.Service.{HasServed}
 use Rattle.qq_cluster_run.specs.Serving.{EndsSpent, Run, setup_in}
 use Rattle.qq_cluster_run.specs.Setup.{cluster_setup, name_by, place_of, row_at}
 use Rattle.qq_cluster_run.specs.Troubles.{Trouble}
-use Rattle.qq_nodes.specs.Nodes.{Stands}
-use Rattle.qq_nodes.specs.Setting.{AreNew}
-use Rattle.qq_nodes.specs.declared.nodes.Nodes.{Nodes}
+use Rattle.qq_cluster.specs.Nodes.{Stands}
+use Rattle.qq_cluster.specs.Setting.{AreNew}
+use Rattle.qq_cluster.specs.declared.nodes.Nodes.{Nodes}
 use Rattle.qq_opening.specs.declared.restarting.RestartFault.{RestartFault}
 use Rattle.qq_opening.specs.declared.restarting.RestartFault.TheVariants as faults
 use Rattle.qq_broker.specs.Lives.{Giving, IsGiven}

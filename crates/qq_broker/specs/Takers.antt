@@ -3,17 +3,17 @@ use Rattle.std.specs.Prelude.{◌≡◌, ℕ, true, false, List, [], ◌∷◌}
 use Rattle.qq_disk.specs.Facts.{DiskFacts}
 use Rattle.qq_script_lines.specs.declared.line.ScriptLine.{ScriptLine}
 use Rattle.qq_script_lines.specs.declared.line.ScriptLine.TheVariants.{Attach}
-use Rattle.qq_setup.specs.declared.setup.Setup.{Setup}
+use Rattle.qq_route.specs.declared.setup.Setup.{Setup}
 use Rattle.qq_taker.specs.Takers.{Takers, is_free}
-use Rattle.qq_cluster.specs.Cluster.{At, Cluster, ClusterEvent, Setup as ClusterSetup, cluster_happens, new_cluster}
-use Rattle.qq_cluster.specs.Outcome.{takers_after}
-use Rattle.qq_cluster.specs.Queue.{Attaches, Event}
+use Rattle.qq_cluster_model.specs.Cluster.{At, Cluster, ClusterEvent, Setup as ClusterSetup, cluster_happens, new_cluster}
+use Rattle.qq_cluster_model.specs.Outcome.{takers_after}
+use Rattle.qq_cluster_model.specs.Queue.{Attaches, Event}
 use Rattle.qq_cluster_run.specs.declared.stop.AskStop.{AskStop}
 use Rattle.qq_cluster_run.specs.declared.stop.AskStop.TheVariants.{Ended, NoMemory}
 use Rattle.qq_cluster_run.specs.Runs.{IsRefusal}
 use Rattle.qq_cluster_run.specs.Serving.{Claims, Histories, Run, all_seen, setup_in}
 use Rattle.qq_cluster_run.specs.Troubles.{TakerIsGone, Trouble}
-use Rattle.qq_nodes.specs.declared.nodes.Nodes.{Nodes}
+use Rattle.qq_cluster.specs.declared.nodes.Nodes.{Nodes}
 use Rattle.qq_broker.specs.Lives.{Giving}
 use Rattle.qq_broker.specs.Nodes.{Had, Holds, Meets}
 use Rattle.qq_broker.specs.declared.faults.StepFault.{StepFault}

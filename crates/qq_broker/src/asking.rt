@@ -10,11 +10,10 @@ ghost use Rattle.qq_broker.specs.Serving.{IsGivenUp, IsServed};
 
 use crate::routing::{publish_with, targets};
 use qq_base::{Bytes, Duplicate, Memory, SessionId, Text};
-use qq_cluster_queue::Told;
+use qq_cluster::{Nodes, Told};
 use qq_disk::NodeDisk;
-use qq_nodes::Nodes;
+use qq_route::Setup;
 use qq_script_lines::ScriptLine;
-use qq_setup::Setup;
 use qq_taker::Taker;
 use std::alloc::Global;
 
@@ -43,14 +42,8 @@ fn send<D: NodeDisk, T: Taker>(
         IfErr result (IsGivenUp (Meets given D.facts before after) (setup_in setup.now run)
         run.events (Send session exchange key body)) }
 {
-    let queues = match targets(alloc, setup, &exchange, &key) {
-        Ok(queues) => queues,
-        Err(memory) => return Err(memory),
-    };
-    let command = match publish_with(alloc, key, body) {
-        Ok(command) => command,
-        Err(memory) => return Err(memory),
-    };
+    let queues = targets(alloc, setup, &exchange, &key)?;
+    let command = publish_with(alloc, key, body)?;
     nodes.send(alloc, queues.as_slice(), session.number, command, told)
 }
 
@@ -76,10 +69,7 @@ fn publish<D: NodeDisk, T: Taker>(
         run.events (Publish body)) }
 {
     let first = &setup.queues.as_slice()[0];
-    let key = match first.name.copy(alloc) {
-        Ok(key) => key,
-        Err(memory) => return Err(memory),
-    };
+    let key = first.name.copy(alloc)?;
     let exchange = Text::new(alloc);
     send(
         alloc,

@@ -3,17 +3,17 @@ ghost use Rattle.std.specs.Prelude.{◌≤◌, IfErr, OnErr, OnOk};
 ghost use Rattle.qq_base.specs.Causes.{HasCause};
 ghost use Rattle.qq_ports.specs.Faults.{IsCaused};
 ghost use Rattle.qq_ports.specs.Streams.{Writes, sink_state};
-ghost use Rattle.qq_cluster.specs.Texts.{audits_text};
+ghost use Rattle.qq_cluster_model.specs.Texts.{audits_text};
 ghost use Rattle.qq_cluster_run.specs.Pieces.{HasPrefix, HasPrintCause, HasSomePrefix};
 ghost use Rattle.qq_cluster_run.specs.Serving.{Run, cluster_in, setup_in};
 ghost use Rattle.qq_broker.specs.Lives.{Giving};
 ghost use Rattle.qq_broker.specs.Nodes.{Holds, MayRun};
 
+use qq_cluster::Nodes;
 use qq_cluster_run::PrintFault;
 use qq_disk::NodeDisk;
-use qq_nodes::Nodes;
 use qq_ports::{Failed, Sink, write_all};
-use qq_setup::Setup;
+use qq_route::Setup;
 use std::alloc::Global;
 
 // How long a text becomes before it is written.

@@ -3,22 +3,21 @@ ghost use Rattle.std.specs.Prelude.{◌≡◌, ◌++◌, Contains, List, IfErr, 
 ghost use Rattle.qq_base.specs.Causes.{SpentOnlyWhere};
 ghost use Rattle.qq_base.specs.Fronts.{IsFront};
 ghost use Rattle.qq_base.specs.declared.memory.TheConstants.{NUMBER_END};
-ghost use Rattle.qq_cluster.specs.Queue.{audit_rows};
+ghost use Rattle.qq_cluster_model.specs.Queue.{audit_rows};
 ghost use Rattle.qq_cluster_run.specs.Serving.{Run, setup_in};
 ghost use Rattle.qq_script.specs.Audit.{audit_text};
 ghost use Rattle.qq_script_lines.specs.declared.line.ScriptLine.TheVariants.{Pump};
-ghost use Rattle.qq_setup.specs.Setup.{SetupState, state_of};
-ghost use Rattle.qq_nodes.specs.Setting.{HaveDisks};
+ghost use Rattle.qq_route.specs.Setup.{SetupState, state_of};
+ghost use Rattle.qq_cluster.specs.Setting.{HaveDisks};
 ghost use Rattle.qq_broker.specs.Broker.{HasPumped, IsPastEnd, Rests, Runs, cluster_at, is_done, setup_at};
 ghost use Rattle.qq_broker.specs.Lives.{Giving};
 ghost use Rattle.qq_broker.specs.Nodes.{Meets};
 ghost use Rattle.qq_broker.specs.Serving.{IsGivenUp};
 
 use qq_base::{Memory, QueueId};
-use qq_cluster_queue::Told;
+use qq_cluster::{Nodes, Told};
 use qq_disk::NodeDisk;
-use qq_nodes::Nodes;
-use qq_setup::Setup;
+use qq_route::Setup;
 use qq_taker::{Desk, Taker};
 use std::alloc::Global;
 use std::mem;

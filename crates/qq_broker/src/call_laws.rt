@@ -17,12 +17,12 @@ ghost use Rattle.qq_session.specs.Printed.{IsConfirmedPublish};
 ghost use Rattle.qq_taker.specs.Takers.{Takers, hear_on};
 ghost use Rattle.qq_taker.specs.declared.handed.Handed.{Handed};
 ghost use Rattle.qq_taker.specs.declared.heard.Heard.{Heard};
-ghost use Rattle.qq_cluster.specs.Cluster.{Cluster, ClusterEvent, Setup};
-ghost use Rattle.qq_cluster.specs.ClusterLaws.{HasGroups};
-ghost use Rattle.qq_cluster.specs.Lines.{IsLine};
-ghost use Rattle.qq_cluster.specs.Outcome.{takers_after};
-ghost use Rattle.qq_cluster.specs.Queue.{audit_rows};
-ghost use Rattle.qq_cluster.specs.Rules.{IsGiven};
+ghost use Rattle.qq_cluster_model.specs.Cluster.{Cluster, ClusterEvent, Setup};
+ghost use Rattle.qq_cluster_model.specs.ClusterLaws.{HasGroups};
+ghost use Rattle.qq_cluster_model.specs.Lines.{IsLine};
+ghost use Rattle.qq_cluster_model.specs.Outcome.{takers_after};
+ghost use Rattle.qq_cluster_model.specs.Queue.{audit_rows};
+ghost use Rattle.qq_cluster_model.specs.Rules.{IsGiven};
 ghost use Rattle.qq_cluster_run.specs.Serving.{Run, after_all, cluster_in, setup_in};
 ghost use Rattle.qq_broker.specs.CallExample.{as_it_is_given, before_the_call, in_the_pump, two_queues};
 ghost use Rattle.qq_broker.specs.Calling.{Answers, HasCalled, outcome_at};
@@ -31,7 +31,7 @@ ghost use Rattle.qq_broker.specs.declared.broker.Broker.{Broker};
 ghost use Rattle.qq_broker.specs.declared.broker.Pumped.TheVariants.{Idle};
 ghost use Rattle.qq_broker.specs.declared.calling.Called.{Called};
 
-use qq_cluster::a_cluster_prints_what_is_true;
+use qq_cluster_model::a_cluster_prints_what_is_true;
 use qq_disk::NodeDisk;
 
 /// A law: what a call answers is true of its queue's audit after it.

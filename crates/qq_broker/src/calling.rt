@@ -1,12 +1,12 @@
 //! A client's command at one queue, answered with data and not with text; and what a queue's leader
 //! has.
 ghost use Rattle.std.specs.Prelude.{◌≡◌, ◌<◌, ◌∷◌, [], List, Option, Some, IfErr, IfOk, IsOkUnless, OnOk};
-ghost use Rattle.qq_cluster.specs.Counts.{counts};
-ghost use Rattle.qq_cluster.specs.Rules.{IsGiven, IsPump, is_idle};
-ghost use Rattle.qq_cluster_queue.specs.Range.{MayStamp};
+ghost use Rattle.qq_cluster_model.specs.Counts.{counts};
+ghost use Rattle.qq_cluster_model.specs.Rules.{IsGiven, IsPump, is_idle};
+ghost use Rattle.qq_queue.specs.Range.{MayStamp};
 ghost use Rattle.qq_cluster_run.specs.Named.{IsNamed, IsPlace};
 ghost use Rattle.qq_cluster_run.specs.Serving.{Run, cluster_in, setup_in};
-ghost use Rattle.qq_nodes.specs.Nodes.{CanServe, GaveUp, IsQueueAt};
+ghost use Rattle.qq_cluster.specs.Nodes.{CanServe, GaveUp, IsQueueAt};
 ghost use Rattle.qq_script_lines.specs.declared.line.ScriptLine.TheVariants.{Client};
 ghost use Rattle.qq_taker.specs.Takers.{take_heard};
 ghost use Rattle.qq_broker.specs.Broker.{Runs};
@@ -16,11 +16,10 @@ ghost use Rattle.qq_broker.specs.Nodes.{Meets};
 
 use crate::broker::{Broker, Pumped, give_back, lend, pump_outcome};
 use qq_base::{Memory, QueueId, SessionId};
-use qq_cluster::who_listens_hears_what_is_told;
-use qq_cluster_queue::Told;
+use qq_cluster::{Nodes, Told};
+use qq_cluster_model::who_listens_hears_what_is_told;
 use qq_disk::NodeDisk;
 use qq_entry::{AuditRow, Unstamped};
-use qq_nodes::Nodes;
 use qq_taker::{Desk, Handed, Heard, Refusal, Taker, What};
 use std::alloc::Global;
 
@@ -181,16 +180,10 @@ fn hear_call<D: NodeDisk, T: Taker>(
         told.old told.new) }
     ensures err { IfErr result (StopsCall D.facts session body queue.0 nodes.old) }
 {
-    let asked = match hand(alloc, nodes, queue, session, body, told) {
-        Ok(asked) => asked,
-        Err(memory) => return Err(memory),
-    };
+    let asked = hand(alloc, nodes, queue, session, body, told)?;
     let outcome = outcome_heard(asked.as_slice());
     drop(asked);
-    let list = match pump(alloc, nodes, told) {
-        Ok(list) => list,
-        Err(memory) => return Err(memory),
-    };
+    let list = pump(alloc, nodes, told)?;
     let idle = nodes.is_idle();
     match answer(alloc, queue, outcome, pump_outcome(idle), list) {
         Ok(called) => Ok(called),

@@ -1,6 +1,6 @@
 //! The nodes of a drill serve its parts.
 ghost use Rattle.std.specs.Prelude.{◌≡◌, ◌≤◌, ◌∷◌, [], List, Some, Contains, IfErr, IfOk, IfSome, IsOkUnless, OnOk, map};
-ghost use Rattle.qq_cluster.specs.Outcome.{deliveries_among};
+ghost use Rattle.qq_cluster_model.specs.Outcome.{deliveries_among};
 ghost use Rattle.qq_cluster_run.specs.Drilling.{Known, is_led, tell};
 ghost use Rattle.qq_cluster_run.specs.Drills.{StopsNext};
 ghost use Rattle.qq_cluster_run.specs.Playing.{Knows};
@@ -13,14 +13,13 @@ ghost use Rattle.qq_broker.specs.Nodes.{Holds, MayRun, Meets};
 use crate::serving::serve_free;
 use crate::stopping::step_stop;
 use qq_base::Memory;
-use qq_cluster::who_listens_hears_what_is_told;
-use qq_cluster_queue::Told;
+use qq_cluster::{Nodes, Told};
+use qq_cluster_model::who_listens_hears_what_is_told;
 use qq_cluster_run::{AskStop, Part, Play, is_named, is_place};
 use qq_disk::NodeDisk;
-use qq_nodes::Nodes;
 use qq_ports::Yard;
+use qq_route::Setup;
 use qq_script_lines::ScriptLine;
-use qq_setup::Setup;
 use qq_taker::Taker;
 use std::alloc::Global;
 
@@ -108,9 +107,7 @@ fn play_lines<Y: Yard, T: Taker>(
     ensures later { Y.faults yard.old ≤ Y.faults yard.new }
 {
     'lines: for line in lines {
-        if let Err(stop) = play_line::<Y, T>(alloc, setup, nodes, yard, told, play, line) {
-            return Err(stop);
-        }
+        play_line::<Y, T>(alloc, setup, nodes, yard, told, play, line)?;
     }
     Ok(())
 }
@@ -199,9 +196,7 @@ pub(crate) fn play_parts<Y: Yard, T: Taker>(
     ensures later { Y.faults yard.old ≤ Y.faults yard.new }
 {
     'parts: for part in parts {
-        if let Err(stop) = play_part::<Y, T>(alloc, setup, nodes, yard, told, play, *part) {
-            return Err(stop);
-        }
+        play_part::<Y, T>(alloc, setup, nodes, yard, told, play, *part)?;
     }
     Ok(())
 }

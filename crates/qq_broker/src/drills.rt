@@ -2,8 +2,8 @@
 ghost use Rattle.std.specs.Prelude.{◌≡◌, ◌≤◌, ◌++◌, List, ℕ, None, IfOk, OnOk};
 ghost use Rattle.sha2.specs.Hashers.{Holds256};
 ghost use Rattle.qq_ports.specs.Streams.{SourceState, beside, sink_state};
-ghost use Rattle.qq_cluster.specs.Texts.{audits_text};
-ghost use Rattle.qq_cluster_queue.specs.Tally.{count_rows};
+ghost use Rattle.qq_cluster_model.specs.Texts.{audits_text};
+ghost use Rattle.qq_queue.specs.Tally.{count_rows};
 ghost use Rattle.qq_cluster_run.specs.Drilling.{Known, all_rows, drill_text, first_known, parts};
 ghost use Rattle.qq_cluster_run.specs.Drills.{DrillEnds, HasDrilled, HasSummary};
 ghost use Rattle.qq_cluster_run.specs.Playing.{Knows};
@@ -17,14 +17,14 @@ use crate::drilling::{play_parts, tell};
 use crate::opening::open;
 use crate::program::close;
 use qq_base::Memory;
-use qq_cluster::who_listens_hears_what_is_told;
-use qq_cluster_queue::{Tally, Told};
+use qq_cluster::{Nodes, Told};
+use qq_cluster_model::who_listens_hears_what_is_told;
 use qq_cluster_run::status::{DONE, WRITE_FAULT};
 use qq_cluster_run::{Ending, Part, Play, Stop, drill_setup, parts, summary};
 use qq_disk::NodeDisk;
-use qq_nodes::Nodes;
 use qq_ports::{Sink, Yard, write_all};
-use qq_setup::Setup;
+use qq_queue::Tally;
+use qq_route::Setup;
 use qq_taker::{Desk, Taker};
 use qq_words::NodeCount;
 use sha2::{Digest, Sha256};
@@ -54,13 +54,9 @@ fn add_audits<D: NodeDisk>(
     let rows = setup.queues.as_slice();
     for row in rows {
         let mut text = Vec::new(alloc);
-        if let Err(cause) = nodes.audit_text(alloc, row.args.queue, &mut text) {
-            return Err(cause);
-        }
+        nodes.audit_text(alloc, row.args.queue, &mut text)?;
         digest.update(text.as_slice());
-        if let Err(cause) = nodes.count_rows(alloc, row.args.queue, tally) {
-            return Err(cause);
-        }
+        nodes.count_rows(alloc, row.args.queue, tally)?;
     }
     Ok(())
 }
@@ -87,9 +83,7 @@ fn finish<D: NodeDisk>(
     } = play;
     drop(drill);
     let mut tally = Tally::new();
-    if let Err(cause) = add_audits(alloc, setup, nodes, &mut digest, &mut tally) {
-        return Err(cause);
-    }
+    add_audits(alloc, setup, nodes, &mut digest, &mut tally)?;
     summary(
         alloc,
         number,

@@ -2,21 +2,20 @@
 ghost use Rattle.std.specs.Prelude.{◌≡◌, ◌≤◌, [], All, IfErr, IfOk, IsOkUnless, OnErr, OnOk, length, option_map, vec_capacity};
 ghost use Rattle.qq_cluster_run.specs.Runs.{MayNotOpen, ending_of, stop_of};
 ghost use Rattle.qq_cluster_run.specs.Service.{HasOpened};
-ghost use Rattle.qq_nodes.specs.Setting.{HaveDisks, IsWhole};
+ghost use Rattle.qq_cluster.specs.Setting.{HaveDisks, IsWhole};
 ghost use Rattle.qq_broker.specs.Lives.{Giving, under};
 ghost use Rattle.qq_broker.specs.Nodes.{Had, Holds, MayRun, Meets};
 ghost use Rattle.qq_broker.specs.Serving.{AreGiven, AreUnopened, IsYardEnding, yard_ending};
 
 use crate::stopping::restart_stop;
 use qq_base::{Memory, NodeId, Text};
-use qq_cluster_queue::Told;
+use qq_cluster::{Nodes, Told};
 use qq_cluster_run::{Ending, Stop, clusters_begin_with_new_logs};
 use qq_disk::NodeDisk;
-use qq_nodes::Nodes;
 use qq_opening::open as open_nodes;
 use qq_ports::{Yard, YardFault};
 use qq_recover::these_disks_may_be_recovered;
-use qq_setup::Setup;
+use qq_route::Setup;
 use qq_taker::Taker;
 use std::alloc::Global;
 
@@ -111,10 +110,7 @@ fn begin<Y: Yard>(
     ensures cause { IfErr result (IsYardEnding (Y.faults yard.old) (Y.faults yard.new)) }
     ensures later { Y.faults yard.old ≤ Y.faults yard.new }
 {
-    let mut disks = match disks_of(alloc, setup.nodes, path_of(root), yard) {
-        Ok(disks) => disks,
-        Err(ending) => return Err(ending),
-    };
+    let mut disks = disks_of(alloc, setup.nodes, path_of(root), yard)?;
     match begin_over(alloc, setup, &mut disks) {
         Ok(nodes) => Ok(nodes),
         Err(_) => Err(Ending::no_memory()),
@@ -145,10 +141,7 @@ pub fn open<Y: Yard, T: Taker>(
     ensures later { Y.faults yard.old ≤ Y.faults yard.new }
 {
     clusters_begin_with_new_logs();
-    let mut nodes = match begin(alloc, setup, root, yard) {
-        Ok(nodes) => nodes,
-        Err(ending) => return Err(ending),
-    };
+    let mut nodes = begin(alloc, setup, root, yard)?;
     match open_nodes(&mut nodes, alloc, told) {
         Ok(some) => {
             if some {

@@ -20,14 +20,13 @@ use crate::opening::open;
 use crate::serving::serve;
 use crate::stopping::step_stop;
 use qq_base::Text;
-use qq_cluster_queue::Told;
+use qq_cluster::{Nodes, Told};
 use qq_cluster_run::status::{DONE, WRITE_FAULT};
 use qq_cluster_run::{
     AskStop, Ending, LINES_LIMIT, PrintFault, Stop, ask, refuse_long_line, set_up, write_made,
 };
-use qq_nodes::Nodes;
 use qq_ports::{LineFault, Lines, Shelf, Sink, Source, Yard, lines_law, next_line, write_all};
-use qq_setup::Setup;
+use qq_route::Setup;
 use qq_taker::{Desk, Taker};
 use qq_words::{Command, Options, read_words};
 use std::alloc::Global;
@@ -57,10 +56,7 @@ fn answer<Y: Yard, T: Taker>(
     ensures same { IfErr result (λ stop. IsRefusedBy stop → told.new ≡ told.old) }
     ensures later { Y.faults yard.old ≤ Y.faults yard.new }
 {
-    let said = match ask(alloc, setup, before, line) {
-        Ok(said) => said,
-        Err(stop) => return Err(stop),
-    };
+    let said = ask(alloc, setup, before, line)?;
     match serve::<Y, T>(alloc, setup, nodes, yard, said, told) {
         Ok(()) => Ok(()),
         Err(fault) => Err(step_stop(alloc, setup, before + 1, fault)),

@@ -3,10 +3,10 @@ ghost use Rattle.std.specs.Prelude.{◌≡◌, ◌∷◌, [], ℕ, List, None, I
 ghost use Rattle.qq_disk.specs.declared.image.Image.{Image};
 ghost use Rattle.qq_disk.specs.Disk.{now};
 ghost use Rattle.qq_raft_protocol.specs.Facts.{In};
-ghost use Rattle.qq_setup.specs.Setup.{SetupState};
+ghost use Rattle.qq_route.specs.Setup.{SetupState};
 ghost use Rattle.qq_wal_chain.specs.Image.{HasNoJunk};
-ghost use Rattle.qq_cluster.specs.Cluster.{Crashes};
-ghost use Rattle.qq_cluster.specs.ClusterLaws.{HasGroups};
+ghost use Rattle.qq_cluster_model.specs.Cluster.{Crashes};
+ghost use Rattle.qq_cluster_model.specs.ClusterLaws.{HasGroups};
 ghost use Rattle.qq_cluster_laws.specs.Answers.{KeepsAnswers};
 ghost use Rattle.qq_cluster_laws.specs.Held.{Supports};
 ghost use Rattle.qq_cluster_run.specs.Serving.{Run};

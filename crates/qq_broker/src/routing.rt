@@ -3,9 +3,9 @@ ghost use Rattle.std.specs.Prelude.{◌≡◌, IfOk, IsOkUnless, map};
 ghost use Rattle.std.specs.Str.{IsUtf8};
 ghost use Rattle.qq_base.specs.declared.ids.QueueId.{QueueId as Id};
 ghost use Rattle.qq_route.specs.Destinations.{listed};
-ghost use Rattle.qq_setup.specs.Setup.{state_of};
-ghost use Rattle.qq_cluster.specs.Lines.{publish_with};
-ghost use Rattle.qq_cluster_queue.specs.Range.{MayStamp};
+ghost use Rattle.qq_route.specs.Setup.{state_of};
+ghost use Rattle.qq_cluster_model.specs.Lines.{publish_with};
+ghost use Rattle.qq_queue.specs.Range.{MayStamp};
 ghost use Rattle.qq_cluster_run.specs.Named.{IsShort};
 ghost use Rattle.qq_cluster_run.specs.Setup.{places_for};
 ghost use Rattle.qq_broker.specs.Nodes.{MayRun};
@@ -13,8 +13,7 @@ ghost use Rattle.qq_broker.specs.Serving.{AreThere};
 
 use qq_base::{Bytes, Memory, Text};
 use qq_entry::{Content, Deaths, Message, Unstamped};
-use qq_route::{Destinations, RouteFault};
-use qq_setup::Setup;
+use qq_route::{Destinations, RouteFault, Setup};
 use std::alloc::Global;
 
 // A law: the bytes of a text are UTF-8.

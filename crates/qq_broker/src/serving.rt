@@ -3,10 +3,10 @@ ghost use Rattle.std.specs.Prelude.{◌≡◌, ◌≤◌, ◌++◌, ◌∷◌, [
 ghost use Rattle.qq_base.specs.Causes.{HasCause};
 ghost use Rattle.qq_ports.specs.Yard.{IsYardCaused};
 ghost use Rattle.qq_script_lines.specs.declared.line.ScriptLine.TheVariants.{Crash, Restart};
-ghost use Rattle.qq_setup.specs.declared.setup.Setup.{Setup as SetupOf};
+ghost use Rattle.qq_route.specs.declared.setup.Setup.{Setup as SetupOf};
 ghost use Rattle.qq_taker.specs.Takers.{Takers};
-ghost use Rattle.qq_cluster.specs.Cluster.{Crashes};
-ghost use Rattle.qq_cluster.specs.Outcome.{Outcome};
+ghost use Rattle.qq_cluster_model.specs.Cluster.{Crashes};
+ghost use Rattle.qq_cluster_model.specs.Outcome.{Outcome};
 ghost use Rattle.qq_cluster_run.specs.Named.{AreNodes, IsNamed};
 ghost use Rattle.qq_cluster_run.specs.Service.{HasServeCause};
 ghost use Rattle.qq_cluster_run.specs.Serving.{Run, all_seen, setup_in};
@@ -20,13 +20,12 @@ ghost use Rattle.qq_broker.specs.declared.faults.StepFault.TheVariants.{NoSuch};
 use crate::asking::ask;
 use crate::faults::StepFault;
 use qq_base::NodeId;
-use qq_cluster_queue::Told;
+use qq_cluster::{Nodes, Told, crash_node};
 use qq_disk::{Image, NodeDisk};
-use qq_nodes::{Nodes, crash_node};
 use qq_opening::{RestartFault, restart as restart_node, restart_each};
 use qq_ports::{Yard, YardFault};
+use qq_route::Setup;
 use qq_script_lines::{Nodes as Which, ScriptLine};
-use qq_setup::Setup;
 use qq_taker::{Desk, Taker};
 use std::alloc::Global;
 
@@ -77,9 +76,7 @@ fn crash_first<Y: Yard>(
     ensures cause { HasCause IsYardCaused (Y.faults yard.old) (Y.faults yard.new) result }
 {
     'nodes: for before in 0..count {
-        if let Err(fault) = crash_one(alloc, nodes, yard, NodeId(before + 1), image) {
-            return Err(fault);
-        }
+        crash_one(alloc, nodes, yard, NodeId(before + 1), image)?;
     }
     Ok(())
 }

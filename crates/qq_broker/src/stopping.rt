@@ -9,8 +9,8 @@ use crate::faults::StepFault;
 use qq_base::{Duplicate, Memory, QueueId};
 use qq_cluster_run::{AskStop, Ending};
 use qq_opening::RestartFault;
+use qq_route::{QueueRow, Setup};
 use qq_script_lines::ScriptFault;
-use qq_setup::{QueueRow, Setup};
 use std::alloc::Global;
 
 // There is no memory, or a number stands at its end.

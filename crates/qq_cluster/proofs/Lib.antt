@@ -1,29 +1,37 @@
-pub mod Groups
+pub mod Rising
+pub mod Total
+pub mod Quiet
+pub mod Walks
+pub mod Outside
+pub mod Items
 pub mod Outcomes
-pub mod Takerless
-pub mod Handing
-mod Told
-mod Consumed
-mod Made
-mod Claims
-mod Fetched
-mod Numbers
-mod Given
-mod PrintedOnce
-mod Leads
-mod Counting
-mod SessionLaws
-pub mod Counts
-pub mod EachQueue
-mod Settling
-mod Quiet
-mod Judging
-mod Seating
-mod TakerSees
-mod TakerRuns
-mod Listening
-mod Serving
-mod Stopping
-mod Worked
-mod WorkedConsumers
-mod WorkedTakers
+pub mod Stands
+pub mod Joined
+pub mod Telling
+pub mod OneQueue
+pub mod Repeated
+pub mod Judged
+pub mod Refused
+pub mod Membership
+pub mod WaitsThere
+pub mod Pumping
+pub mod LineRules
+pub mod Owned
+pub mod Turned
+pub mod OwnStands
+pub mod Taken
+pub mod Written
+pub mod Synced
+pub mod Sent
+pub mod OnTheWay
+pub mod Logged
+pub mod Shown
+pub mod Crashed
+pub mod CrashedEach
+pub mod Shows
+pub mod Built
+pub mod Putting
+pub mod Stopped
+pub mod Begun
+pub mod Ticked
+pub mod EventEnds

@@ -1,64 +1,28 @@
--- What comes of events one after the other.
-use Rattle.std.proofs.Common.{◌≡◌, ℕ, List, [], ◌∷◌, ◌++◌, map, refl, sym, ap, ◌∙◌, append_assoc, append-nil}
-use Rattle.std.specs.List.{flat_map}
-use Rattle.std.proofs.lemmas.Grind.{flat_map-append}
-use Rattle.qq_session.specs.Shown.{Shown}
-use Rattle.qq_taker.specs.Takers.{Takers}
-use Rattle.qq_cluster.specs.Cluster.{Cluster, ClusterEvent, At, Of, Printed, Setup, all_prints, cluster_after, cluster_happens, prints}
-use Rattle.qq_cluster.specs.Outcome.{sees, sees_all, sees_printed, sees_prints, takers_after}
-use Rattle.qq_cluster.specs.Queue.{Event, said}
-use Rattle.qq_cluster.specs.Texts.{printed_text, text_of}
+-- What comes of events outside of the nodes.
+use Rattle.std.proofs.Common.{◌≡◌, ℕ, List, [], ◌∷◌, ◌++◌, sym, ap, append-nil}
+use Rattle.qq_taker.specs.Takers.{no_takers}
+use Rattle.qq_cluster_model.specs.Cluster.{Cluster, ClusterEvent, Setup}
+use Rattle.qq_cluster_model.specs.Outcome.{Outcome, takers_after}
+use Rattle.qq_cluster_model.specs.Texts.{text_of}
+use Rattle.qq_cluster_laws.proofs.Serves.{ShowsOne}
+use Rattle.qq_cluster.specs.Showing.{with_line}
 
-pub cluster-append : (c : Cluster) (events others : List ClusterEvent)
-    → cluster_after c (events ++ others) ≡ cluster_after (cluster_after c events) others
-cluster-append c [] others = refl
-cluster-append c (event ∷ events) others = cluster-append (cluster_happens c event) events others
+abbrev pub outcome_after : Setup → Cluster → List ClusterEvent → Outcome → Outcome
+outcome_after setup c events before =
+    record { text = before.text ++ text_of setup c events; takers = takers_after setup c events before.takers }
 
-pub prints-both : (setup : Setup) (c : Cluster) (events others : List ClusterEvent)
-    → all_prints setup c (events ++ others)
-    ≡ all_prints setup c events ++ all_prints setup (cluster_after c events) others
-prints-both setup c [] others = refl
-prints-both setup c (event ∷ events) others =
-    ap (λ (l : List Printed). prints setup c event ++ l) (prints-both setup (cluster_happens c event) events others)
-    ∙ sym (append_assoc (prints setup c event) (all_prints setup (cluster_happens c event) events)
-    (all_prints setup (cluster_after c (event ∷ events)) others))
+-- nothing was printed, and there are no takers
+abbrev pub no_outcome : Outcome
+no_outcome = record { text = []; takers = no_takers }
 
-pub text-both : (setup : Setup) (c : Cluster) (events others : List ClusterEvent)
-    → text_of setup c (events ++ others) ≡ text_of setup c events ++ text_of setup (cluster_after c events) others
-text-both setup c events others =
-    ap (flat_map (printed_text setup)) (prints-both setup c events others)
-    ∙ flat_map-append (printed_text setup) (all_prints setup c events) (all_prints setup (cluster_after c events) others)
+-- nothing comes of what shows nothing
+pub same-outcome : (outcome : Outcome) → outcome ≡ with_line [] outcome
+same-outcome outcome = ap (λ (l : List ℕ). record outcome { text = l }) (sym (append-nil outcome.text))
 
--- ---- takers
+pub line-outcome : (line : List ℕ) (before : Outcome) → with_line line before ≡ with_line (line ++ []) before
+line-outcome line before = ap (λ (l : List ℕ). with_line l before) (sym (append-nil line))
 
-pub sees_all-append : (place : ℕ) (xs ys : List Shown) (all : Takers)
-    → sees_all place (xs ++ ys) all ≡ sees_all place ys (sees_all place xs all)
-sees_all-append place [] ys all = refl
-sees_all-append place (x ∷ xs) ys all = sees_all-append place xs ys (sees place x all)
-
-pub sees_prints-append : (xs ys : List Printed) (all : Takers)
-    → sees_prints (xs ++ ys) all ≡ sees_prints ys (sees_prints xs all)
-sees_prints-append [] ys all = refl
-sees_prints-append (x ∷ xs) ys all = sees_prints-append xs ys (sees_printed x all)
-
--- takers see what is shown of one queue
-pub sees-of : (place : ℕ) (shown : List Shown) (all : Takers)
-    → sees_prints (map (Of place) shown) all ≡ sees_all place shown all
-sees-of place [] all = refl
-sees-of place (x ∷ xs) all = sees-of place xs (sees place x all)
-
-pub takers-both : (setup : Setup) (c : Cluster) (events others : List ClusterEvent) (all : Takers)
-    → takers_after setup c (events ++ others) all
-    ≡ takers_after setup (cluster_after c events) others (takers_after setup c events all)
-takers-both setup c events others all =
-    ap (λ (l : List Printed). sees_prints l all) (prints-both setup c events others)
-    ∙ sees_prints-append (all_prints setup c events) (all_prints setup (cluster_after c events) others) all
-
--- ---- one event
-
--- what one event of a queue is to the takers
-pub takers-at : (setup : Setup) (c : Cluster) (place : ℕ) (event : Event) (all : Takers)
-    → takers_after setup c (At place event ∷ []) all ≡ sees_all place (said (c.queue place) event) all
-takers-at setup c place event all =
-    ap (λ (l : List Printed). sees_prints l all) (append-nil (map (Of place) (said (c.queue place) event)))
-    ∙ sees-of place (said (c.queue place) event) all
+pub shows-one : (setup : Setup) (c : Cluster) (event : ClusterEvent) (before later : Outcome)
+    → later ≡ outcome_after setup c (event ∷ []) before → ShowsOne setup c event before later
+shows-one setup c event before later is =
+    record { text = ap (λ (o : Outcome). o.text) is; takers = ap (λ (o : Outcome). o.takers) is }

@@ -1,173 +1,157 @@
--- Events at which nothing is handed out, and verdicts, after which fewer deliveries wait.
-use Rattle.std.proofs.Common.{◌≡◌, ◌≢◌, ◌⊎◌, ◌≤◌, ℕ, zero, suc, Bool, true, false, cond, List, [], ◌∷◌, Option, Some, None, length, refl, sym, ap, ◌∙◌, subst, inl, inr, arith}
-use Rattle.std.specs.Prelude.{nat_eq}
-use Rattle.std.specs.List.{AllByRecursion}
-use Rattle.std.proofs.lemmas.Bool.{cases_eq, cond_both}
-use Rattle.qq_entry.specs.declared.command.Unstamped.{Unstamped}
-use Rattle.qq_taker.specs.declared.handed.Handed.{Handed}
-use Rattle.qq_taker.specs.declared.seats.Seat.{Seat}
-use Rattle.qq_cluster.specs.Cluster.{Cluster, ClusterEvent, Sets, Alike, At, NodeWrites, NodeSyncs, Fails, Crashes, FindsEach, Shows, SaysDown, SaysNoSuch, SaysUnroutable, SaysBusy, SaysEnded, cluster_after, cluster_happens, part_of, MutesEach, EndsEach}
-use Rattle.qq_cluster.specs.ClusterLaws.{NothingWaits}
-use Rattle.qq_cluster.specs.Queue.{Queue, Event, Mutes, Ends, Submits, TellsEnded, TellsNotTaken, Judges, Writes, Syncs, Stops, Finds, after}
-use Rattle.qq_cluster.specs.Rules.{Rule, IsNothing, Is, if_so, Times, is_ended, IsGiven, IsClaimed, IsCommanded, IsJudgedWhere, IsNextJudged, not_taken}
-use Rattle.qq_cluster.specs.Taking.{command_for, has_taker, unjudged, waiting_of}
-use Rattle.qq_cluster.proofs.Handing.{HandsNothing, untold-same}
-use Rattle.qq_cluster.proofs.Outcomes.{cluster-append}
-use Rattle.qq_cluster.proofs.Takerless.{at-other, queue-at}
+-- A queue that is quiet does nothing in a round, and stays so where others act.
+use Rattle.std.proofs.Common.{◌≡◌, ◌≢◌, ◌⊎◌, ℕ, Bool, true, false, ◌&&◌, cond, List, [], ◌∷◌, None, length, refl, sym, ap, ◌∙◌, subst, inl, inr, arith}
+use Rattle.std.proofs.Math.Path.{fun_ext}
+use Rattle.std.specs.Prelude.{is_some, nat_eq, nat_lt, replicate}
+use Rattle.std.specs.List.{list_all}
+use Rattle.std.proofs.lemmas.Bool.{and_parts, and_from, cases_eq, cond_both, eqb-true, le-ltb}
+use Rattle.qq_base.proofs.Puts.{put-each, put-other, put-same}
+use Rattle.qq_base.specs.Fronts.{put}
+use Rattle.qq_raft_model.specs.Group.{Seat, group_after}
+use Rattle.qq_raft_model.specs.Group.Event.{Take}
+use Rattle.qq_raft_protocol.specs.Facts.{In}
+use Rattle.qq_cluster_model.specs.Cluster.{Cluster, Setup}
+use Rattle.qq_cluster_model.specs.Laws.{CountsRise}
+use Rattle.qq_cluster_model.specs.Queue.{Queue, Stops, Syncs, Writes, happens, synced_after, waiting}
+use Rattle.qq_cluster_model.proofs.Takerless.{untold-still}
+use Rattle.qq_cluster_model.specs.Rules.{is_idle, is_quiet, is_quiet_at, is_settled, waits_noticed, waits_synced, waits_written}
 
--- ---- events at which nothing is handed out
+-- ---- what a quiet queue has
 
-abbrev pub IsQuiet : ClusterEvent → Type 0
-IsQuiet (At place event) = HandsNothing event
-IsQuiet _ = Unit {0}
+pub all-in : {A : Type 0} (test : A → Bool) (xs : List A) (x : A) → list_all test xs ≡ true → In x xs → test x ≡ true
+all-in test [] x all here = absurd here
+all-in test (y ∷ ys) x all (inl same) = ap test same ∙ (and_parts (test y) (list_all test ys) all).0
+all-in test (y ∷ ys) x all (inr later) = all-in test ys x (and_parts (test y) (list_all test ys) all).1 later
 
-quiet-part : (place : ℕ) (event : ClusterEvent) → IsQuiet event → (q : Queue)
-    → (after q (part_of place event)).untold ≡ q.untold
-quiet-part place (At own event) quiet q =
-    cond_both (nat_eq own place) (event ∷ []) [] (λ (events : List Event). (after q events).untold ≡ q.untold)
-    (λ _. untold-same q event quiet) (λ _. refl)
-quiet-part place (Alike (MutesEach session muted)) quiet q = untold-same q (Mutes session muted) tt
-quiet-part place (Alike (EndsEach session)) quiet q = untold-same q (Ends session) tt
-quiet-part place (NodeWrites k) quiet q = untold-same q (Writes k) tt
-quiet-part place (NodeSyncs k) quiet q = untold-same q (Syncs k) tt
-quiet-part place (Fails k) quiet q = untold-same q (Stops k) tt
-quiet-part place (Crashes k image) quiet q = untold-same q (Stops k) tt
-quiet-part place (FindsEach k ops) quiet q = untold-same q (Finds k (ops place)) tt
-quiet-part place (Sets auto) quiet q = refl
-quiet-part place (Shows own) quiet q = refl
-quiet-part place (SaysDown k) quiet q = refl
-quiet-part place SaysNoSuch quiet q = refl
-quiet-part place SaysUnroutable quiet q = refl
-quiet-part place SaysBusy quiet q = refl
-quiet-part place SaysEnded quiet q = refl
+pub all-from : {A : Type 0} (test : A → Bool) (xs : List A) → ((x : A) → In x xs → test x ≡ true)
+    → list_all test xs ≡ true
+all-from test [] each = refl
+all-from test (x ∷ xs) each =
+    and_from (test x) (list_all test xs) (each x (inl refl)) (all-from test xs (λ y later. each y (inr later)))
 
-pub quiet-all : (c : Cluster) (events : List ClusterEvent) → AllByRecursion IsQuiet events → (place : ℕ)
-    → ((cluster_after c events).queue place).untold ≡ (c.queue place).untold
-quiet-all c [] quiet place = refl
-quiet-all c (event ∷ events) quiet place =
-    quiet-all (cluster_happens c event) events quiet.1 place ∙ quiet-part place event quiet.0 (c.queue place)
+-- nothing waits at a node that is up
+pub record IsDone (k : ℕ) (q : Queue) : Type 0 where
+  pub written : waiting k q.group ≡ 0
+  pub noticed : (q.group.seat k).noticed ≡ length (q.group.seat k).ops
 
--- a rule allows no others
-abbrev pub Quiet : Rule → Type 0
-Quiet Allows = (c : Cluster) (events : List ClusterEvent) → Allows c events → AllByRecursion IsQuiet events
+pub done : (setup : Setup) (up : ℕ → Bool) (q : Queue) (k : ℕ) → In k setup.nodes → up k ≡ true
+    → is_quiet setup up q ≡ true → IsDone k q
+done setup up q k node is quiet =
+    let all = (and_parts (nat_eq (length q.group.bag) 0) (list_all (is_quiet_at q up) setup.nodes) quiet).1 in
+    let at = all-in (is_quiet_at q up) setup.nodes k all node in
+    let settled : is_settled k q ≡ true =
+    subst (λ (b : Bool). cond b (is_settled k q) true ≡ true) is at in
+    let parts = and_parts (nat_eq (waiting k q.group) 0)
+    (nat_eq (q.group.seat k).noticed (length (q.group.seat k).ops)) settled in
+    record {
+      written = eqb-true (waiting k q.group) 0 parts.0;
+      noticed = eqb-true (q.group.seat k).noticed (length (q.group.seat k).ops) parts.1;
+    }
 
-pub quiet-is : (event : ClusterEvent) → IsQuiet event → Quiet (Is event)
-quiet-is event quiet c events is = subst (AllByRecursion IsQuiet) (sym is) (quiet, tt)
+pub quiet-bag : (setup : Setup) (up : ℕ → Bool) (q : Queue) → is_quiet setup up q ≡ true → length q.group.bag ≡ 0
+quiet-bag setup up q quiet =
+    eqb-true (length q.group.bag) 0
+    (and_parts (nat_eq (length q.group.bag) 0) (list_all (is_quiet_at q up) setup.nodes) quiet).0
 
-pub quiet-nothing : Quiet IsNothing
-quiet-nothing c events is = subst (AllByRecursion IsQuiet) (sym is) tt
+-- ---- a node's write and sync
 
-pub quiet-if : (test : Cluster → Bool) (First Second : Rule) → Quiet First → Quiet Second
-    → Quiet (λ c events. if_so (test c) First Second c events)
-quiet-if test First Second first second c events allowed = by (test c) allowed
+pub quiet-writes : (setup : Setup) (up : ℕ → Bool) (q : Queue) (k : ℕ) → In k setup.nodes → up k ≡ true
+    → is_quiet setup up q ≡ true → happens q (Writes k) ≡ q
+quiet-writes setup up q k node is quiet =
+    sym (untold-still (record q { group = group_after q.group (replicate (waiting k q.group) (Take k)) }))
+    ∙ ap (λ (n : ℕ). record q { group = group_after q.group (replicate n (Take k)) })
+    (done setup up q k node is quiet).written
+
+-- a function that is given the value that it has
+pub put-own : {A : Type 0} (k : ℕ) (x : A) (f : ℕ → A) → f k ≡ x → put k x f ≡ f
+put-own k x f is =
+    fun_ext (λ i. put-each (λ (j : ℕ) y. y ≡ f j) k x f (sym is) (λ j other. refl) i)
+
+synced-all : (setup : Setup) (up : ℕ → Bool) (q : Queue) (k : ℕ) → In k setup.nodes → up k ≡ true → CountsRise q k
+    → is_quiet setup up q ≡ true → q.synced k ≡ length (q.group.seat k).ops
+synced-all setup up q k node is rise quiet =
+    let low = rise.noticed in
+    let high = rise.synced in
+    let noticed = (done setup up q k node is quiet).noticed in
+    omega (arith, low, high, noticed)
+
+pub quiet-syncs : (setup : Setup) (up : ℕ → Bool) (q : Queue) (k : ℕ) → In k setup.nodes → up k ≡ true
+    → CountsRise q k → is_quiet setup up q ≡ true → happens q (Syncs k) ≡ q
+quiet-syncs setup up q k node is rise quiet =
+    sym (untold-still (record q { synced = synced_after q (Syncs k) }))
+    ∙ ap (λ (synced : ℕ → ℕ). record q { synced = synced })
+    (cond_both (is_some (q.group.seat k).server) (put k (length (q.group.seat k).ops) q.synced) q.synced
+    (λ (synced : ℕ → ℕ). synced ≡ q.synced)
+    (λ _. put-own k (length (q.group.seat k).ops) q.synced (synced-all setup up q k node is rise quiet))
+    (λ _. refl))
+
+-- ---- what is tested of it
+
+pub quiet-written : (setup : Setup) (up : ℕ → Bool) (q : Queue) (k : ℕ) → In k setup.nodes → up k ≡ true
+    → is_quiet setup up q ≡ true → waits_written k q ≡ false
+quiet-written setup up q k node is quiet = ap (nat_lt 0) (done setup up q k node is quiet).written
+
+pub quiet-synced : (setup : Setup) (up : ℕ → Bool) (q : Queue) (k : ℕ) → In k setup.nodes → up k ≡ true
+    → CountsRise q k → is_quiet setup up q ≡ true → waits_synced k q ≡ false
+quiet-synced setup up q k node is rise quiet =
+    le-ltb (q.synced k) (length (q.group.seat k).ops)
+    (let all = synced-all setup up q k node is rise quiet in omega (arith, all))
+
+pub quiet-noticed : (setup : Setup) (up : ℕ → Bool) (q : Queue) (k : ℕ) → In k setup.nodes → CountsRise q k
+    → is_quiet setup up q ≡ true → (up k && waits_noticed k q) ≡ false
+quiet-noticed setup up q k node rise quiet = by (up k) refl
   where
-    by : (b : Bool) → if_so b First Second c events → AllByRecursion IsQuiet events
-    by true allowed' = first c events allowed'
-    by false allowed' = second c events allowed'
+    by : (b : Bool) → up k ≡ b → (b && waits_noticed k q) ≡ false
+    by true is =
+        le-ltb (q.group.seat k).noticed (q.synced k)
+        (let all = (done setup up q k node is quiet).noticed in let high = rise.synced in omega (arith, all, high))
+    by false is = refl
 
-quiet-claimed : (o : Option ℕ) (session : ℕ) (body : Unstamped) (place : ℕ) → Quiet (IsClaimed o session body place)
-quiet-claimed None session body place = quiet-is (At place (Submits session body)) tt
-quiet-claimed (Some id) session body place = quiet-is (At place (TellsNotTaken session id)) tt
+-- ---- what leaves it quiet
 
-pub quiet-given : (session : ℕ) (body : Unstamped) (place : ℕ) → Quiet (IsGiven session body place)
-quiet-given session body place c events allowed = by (is_ended session (c.queue place)) allowed
+-- a node stops
+pub quiet-stopped : (setup : Setup) (up : ℕ → Bool) (q : Queue) (k : ℕ) → is_quiet setup up q ≡ true
+    → is_quiet setup (put k false up) (happens q (Stops k)) ≡ true
+quiet-stopped setup up q k quiet =
+    and_from (nat_eq (length q.group.bag) 0) (list_all (is_quiet_at (happens q (Stops k)) (put k false up)) setup.nodes)
+    parts.0 (all-from (is_quiet_at (happens q (Stops k)) (put k false up)) setup.nodes
+    (λ j node. at j (all-in (is_quiet_at q up) setup.nodes j parts.1 node)))
   where
-    own : Rule
-    own = IsClaimed (not_taken session body (c.queue place)) session body place
+    parts : (nat_eq (length q.group.bag) 0 ≡ true) × (list_all (is_quiet_at q up) setup.nodes ≡ true)
+    parts = and_parts (nat_eq (length q.group.bag) 0) (list_all (is_quiet_at q up) setup.nodes) quiet
 
-    by : (b : Bool) → if_so b (Is (At place (TellsEnded session))) own c events → AllByRecursion IsQuiet events
-    by true allowed' = quiet-is (At place (TellsEnded session)) tt c events allowed'
-    by false allowed' =
-        quiet-claimed (not_taken session body (c.queue place)) session body place c events allowed'
+    crashed : Seat
+    crashed = record { server = None; ops = (q.group.seat k).ops; noticed = (q.group.seat k).noticed }
 
-quiet-commanded : (o : Option Unstamped) (session place : ℕ) → Quiet (IsCommanded o session place)
-quiet-commanded None session place = quiet-nothing
-quiet-commanded (Some body) session place = quiet-given session body place
-
--- ---- verdicts
-
-waiting-few : (seats : List Seat) (hs : List Handed) → length (waiting_of seats hs) ≤ length hs
-waiting-few seats [] = omega arith
-waiting-few seats (h ∷ more) = by (has_taker seats h) (waiting-few seats more)
-  where
-    one-more : (n m : ℕ) → n ≤ m → n ≤ suc m
-    one-more n m le = omega arith
-
-    by : (b : Bool) → length (waiting_of seats more) ≤ length more
-        → length (cond b (h ∷ more) (waiting_of seats more)) ≤ length (h ∷ more)
-    by true few = omega arith
-    by false few = one-more (length (waiting_of seats more)) (length more) few
-
-none-left : (hs : List Handed) → length hs ≤ 0 → hs ≡ []
-none-left [] few = refl
-none-left (h ∷ more) few = absurd (too-few (length more) few)
-  where
-    too-few : (n : ℕ) → suc n ≤ 0 → ⊥
-    too-few n le = omega arith
-
--- deliveries wait at this queue alone, and no more than so many
-pub record WaitAt (place n : ℕ) (c : Cluster) : Type 0 where
-  pub few : length (c.queue place).untold ≤ n
-  pub others : (other : ℕ) → place ≢ other → (c.queue other).untold ≡ []
-
-pub elsewhere : (place : ℕ) (event : Event) (c : Cluster) (other : ℕ) → place ≢ other
-    → (cluster_happens c (At place event)).queue other ≡ c.queue other
-elsewhere place event c other differs = ap (after (c.queue other)) (at-other other place event differs)
-
-waits-quiet : (place n : ℕ) (c : Cluster) (events : List ClusterEvent) → AllByRecursion IsQuiet events
-    → WaitAt place n c → WaitAt place n (cluster_after c events)
-waits-quiet place n c events quiet w = record {
-  few = subst (λ (hs : List Handed). length hs ≤ n) (sym (quiet-all c events quiet place)) w.few;
-  others = λ other differs. quiet-all c events quiet other ∙ w.others other differs;
-}
-
-judged-fewer : (place n : ℕ) (c : Cluster) (events : List ClusterEvent) → WaitAt place (suc n) c
-    → IsNextJudged place c events → WaitAt place n (cluster_after c events)
-judged-fewer place n c events w allowed = by (c.queue place).untold refl allowed
-  where
-    less : (seats : List Seat) (h : Handed) (more : List Handed) → length (h ∷ more) ≤ suc n
-        → length (waiting_of seats more) ≤ n
-    less seats h more few = of (length (waiting_of seats more)) (length more) (waiting-few seats more) few
+    at : (j : ℕ) → is_quiet_at q up j ≡ true → is_quiet_at (happens q (Stops k)) (put k false up) j ≡ true
+    at j is = by (cases_eq j k)
       where
-        of : (a b : ℕ) → a ≤ b → suc b ≤ suc n → a ≤ n
-        of a b below most = omega arith
+        by : ((j ≡ k) ⊎ (j ≢ k)) → is_quiet_at (happens q (Stops k)) (put k false up) j ≡ true
+        by (inl same) =
+            ap (λ (b : Bool). cond b (is_settled j (happens q (Stops k))) true)
+            (ap (put k false up) same ∙ put-same k false up)
+        by (inr other) =
+            ap (λ (b : Bool). cond b (is_settled j (happens q (Stops k))) true) (put-other k false up j other)
+            ∙ ap (λ (seat : Seat). cond (up j) (settled seat) true) (put-other k crashed q.group.seat j other) ∙ is
+          where
+            settled : Seat → Bool
+            settled seat = is_settled j (record q { group = record q.group { seat = λ i. seat } })
 
-    by : (waits : List Handed) → (c.queue place).untold ≡ waits → IsJudgedWhere place waits c events
-        → WaitAt place n (cluster_after c events)
-    by [] is nothing = subst (λ (es : List ClusterEvent). WaitAt place n (cluster_after c es)) (sym nothing) (record {
-      few = subst (λ (hs : List Handed). length hs ≤ n) (sym is) (omega arith);
-      others = w.others;
-    })
-    by (h ∷ more) is judges =
-        let verdict = judges.verdict in
-        let d : Cluster = cluster_happens c (At place (Judges verdict)) in
-        let first : WaitAt place n d = record {
-          few = subst (λ (hs : List Handed). length hs ≤ n)
-              (sym (ap (λ (q : Queue). q.untold) (queue-at c place (Judges verdict))
-              ∙ ap (unjudged (c.queue place).seats) is))
-              (less (c.queue place).seats h more (subst (λ (hs : List Handed). length hs ≤ suc n) is w.few));
-          others = λ other differs.
-              ap (λ (q : Queue). q.untold) (elsewhere place (Judges verdict) c other differs) ∙ w.others other differs;
-        } in
-        let early : WaitAt place n (cluster_after c judges.is.early) =
-        subst (λ (es : List ClusterEvent). WaitAt place n (cluster_after c es)) (sym judges.is.first) first in
-        subst (λ (es : List ClusterEvent). WaitAt place n (cluster_after c es)) (sym judges.is.is)
-        (subst (WaitAt place n) (sym (cluster-append c judges.is.early judges.is.late))
-        (waits-quiet place n (cluster_after c judges.is.early) judges.is.late
-        (quiet-commanded (command_for verdict h) h.consumer.session.number place (cluster_after c judges.is.early)
-        judges.is.late judges.is.second) early))
+-- ---- a whole cluster
 
-pub told-all : (place n : ℕ) (c : Cluster) (events : List ClusterEvent) → WaitAt place n c
-    → Times n (IsNextJudged place) c events → NothingWaits (cluster_after c events)
-told-all place zero c events w is =
-    subst (λ (es : List ClusterEvent). NothingWaits (cluster_after c es)) (sym is)
-    (λ other. at other (cases_eq place other))
+pub idle-from : (setup : Setup) (c : Cluster)
+    → ((place : ℕ) → In place setup.places → is_quiet setup c.up (c.queue place) ≡ true) → is_idle setup c ≡ true
+idle-from setup c each = all-from (λ (place : ℕ). is_quiet setup c.up (c.queue place)) setup.places each
+
+pub idle-not : (setup : Setup) (c : Cluster) (place : ℕ) → In place setup.places
+    → is_quiet setup c.up (c.queue place) ≡ false → is_idle setup c ≡ false
+idle-not setup c place here busy = not-all (λ (p : ℕ). is_quiet setup c.up (c.queue p)) setup.places here busy
   where
-    at : (other : ℕ) → ((place ≡ other) ⊎ (place ≢ other)) → (c.queue other).untold ≡ []
-    at other (inl same) =
-        subst (λ (i : ℕ). (c.queue i).untold ≡ []) same (none-left (c.queue place).untold w.few)
-    at other (inr differs) = w.others other differs
-told-all place (suc n) c events w is =
-    subst (λ (es : List ClusterEvent). NothingWaits (cluster_after c es)) (sym is.is)
-    (subst NothingWaits (sym (cluster-append c is.early is.late))
-    (told-all place n (cluster_after c is.early) is.late (judged-fewer place n c is.early w is.first) is.second))
+    not-all : (test : ℕ → Bool) (xs : List ℕ) → In place xs → test place ≡ false → list_all test xs ≡ false
+    not-all test [] here is = absurd here
+    not-all test (x ∷ xs) (inl same) is = ap (λ (b : Bool). b && list_all test xs) (ap test (sym same) ∙ is)
+    not-all test (x ∷ xs) (inr later) is =
+        by (test x) (not-all test xs later is)
+      where
+        by : (b : Bool) → list_all test xs ≡ false → (b && list_all test xs) ≡ false
+        by true rest = rest
+        by false rest = refl

@@ -8,9 +8,9 @@ use Rattle.qq_disk.proofs.Moments.{adds-now}
 use Rattle.qq_lots.specs.Kept.{KeepsPromised}
 use Rattle.qq_lots.specs.Lots.{Parts}
 use Rattle.qq_raft_protocol.specs.Facts.{In}
-use Rattle.qq_cluster.specs.Cluster.{Cluster, ClusterEvent, Setup, Sets, Alike, At, NodeWrites, NodeSyncs, Fails, Crashes, FindsEach, Shows, SaysDown, SaysNoSuch, SaysUnroutable, SaysBusy, SaysEnded, cluster_happens}
-use Rattle.qq_cluster.specs.ClusterLaws.{HasGroups}
-use Rattle.qq_cluster.proofs.Groups.{KeepsCommits}
+use Rattle.qq_cluster_model.specs.Cluster.{Cluster, ClusterEvent, Setup, Sets, Alike, At, NodeWrites, NodeSyncs, Fails, Crashes, FindsEach, Shows, SaysDown, SaysNoSuch, SaysUnroutable, SaysBusy, SaysEnded, cluster_happens}
+use Rattle.qq_cluster_model.specs.ClusterLaws.{HasGroups}
+use Rattle.qq_cluster_model.proofs.Groups.{KeepsCommits}
 use Rattle.qq_cluster_laws.specs.Always.{SupportAlways, SupportBetween, is_crash}
 use Rattle.qq_cluster_laws.specs.Held.{Supports}
 use Rattle.qq_cluster_laws.specs.Linked.{IsPromised, IsReached, lot_of}

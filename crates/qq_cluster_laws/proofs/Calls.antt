@@ -15,8 +15,8 @@ use Rattle.qq_lots.specs.Lots.{find_each, give_batch, ids_of, keep_all}
 use Rattle.qq_lots.proofs.Writes.{Grows, promised-later, tied-promised}
 use Rattle.qq_recover.specs.Reading.{lanes_read, shown}
 use Rattle.qq_wal_chain.specs.Lanes.{Lanes}
-use Rattle.qq_cluster.specs.Cluster.{Cluster, ClusterEvent, Setup, NodeWrites, NodeSyncs, Fails, Crashes, FindsEach, cluster_happens}
-use Rattle.qq_cluster.specs.ClusterLaws.{HasGroups}
+use Rattle.qq_cluster_model.specs.Cluster.{Cluster, ClusterEvent, Setup, NodeWrites, NodeSyncs, Fails, Crashes, FindsEach, cluster_happens}
+use Rattle.qq_cluster_model.specs.ClusterLaws.{HasGroups}
 use Rattle.qq_cluster_laws.specs.Linked.{IsLinked, IsPromised, IsReached, MembersFollow, lot_of, part_at, parts_at}
 use Rattle.qq_cluster_laws.specs.Traced.{FindsWhatIsRead, IsBrokenAt, IsTracedAt, Keeps, KeepsAt, KeepsWhere, LeavesImage, StaysPromised}
 use Rattle.qq_cluster_laws.specs.Unseen.{sees}

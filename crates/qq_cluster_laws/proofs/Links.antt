@@ -25,11 +25,11 @@ use Rattle.qq_raft_model.specs.State.{Server}
 use Rattle.qq_wal.specs.Running.{top}
 use Rattle.qq_wal_chain.specs.Lanes.{Lanes}
 use Rattle.qq_wal_chain.specs.Laws.{KeepsPromise}
-use Rattle.qq_cluster.specs.Cluster.{Cluster, ClusterEvent, Setup, NodeWrites, NodeSyncs, Fails, Crashes, FindsEach, cluster_happens, members, new_cluster}
-use Rattle.qq_cluster.specs.ClusterLaws.{HasGroups}
-use Rattle.qq_cluster.specs.Laws.{CountsRise}
-use Rattle.qq_cluster.specs.Queue.{Queue, Writes, Syncs, Stops, Finds, happens, synced_after, waiting}
-use Rattle.qq_cluster.specs.Rules.{may_find}
+use Rattle.qq_cluster_model.specs.Cluster.{Cluster, ClusterEvent, Setup, NodeWrites, NodeSyncs, Fails, Crashes, FindsEach, cluster_happens, members, new_cluster}
+use Rattle.qq_cluster_model.specs.ClusterLaws.{HasGroups}
+use Rattle.qq_cluster_model.specs.Laws.{CountsRise}
+use Rattle.qq_cluster_model.specs.Queue.{Queue, Writes, Syncs, Stops, Finds, happens, synced_after, waiting}
+use Rattle.qq_cluster_model.specs.Rules.{may_find}
 use Rattle.qq_cluster_laws.specs.Linked.{IsLinked, IsPromised, IsReached, MembersFollow, lot_of, part_at, parts_at}
 use Rattle.qq_cluster_laws.specs.Traced.{HasHonestImage, LeavesImage}
 use Rattle.qq_cluster_laws.specs.Waiting.{AllWait, ops_waiting}

@@ -13,11 +13,11 @@ use Rattle.qq_raft_model.specs.Group.{Event as Move, Group, group_after}
 use Rattle.qq_raft_model.specs.Promises.{AreDistinct, IsOpened, whole_audit}
 use Rattle.qq_raft_protocol.specs.Facts.{In}
 use Rattle.qq_raft_protocol.proofs.Fewer.{supported-fewer}
-use Rattle.qq_cluster.specs.Cluster.{Cluster, ClusterEvent, Setup, cluster_after, cluster_happens, part_of, parts_of}
-use Rattle.qq_cluster.specs.ClusterLaws.{HasGroups}
-use Rattle.qq_cluster.specs.Laws.{all_moves}
-use Rattle.qq_cluster.specs.Queue.{Queue, after}
-use Rattle.qq_cluster.proofs.Groups.{KeepsCommits, after-append, group-append, group-is}
+use Rattle.qq_cluster_model.specs.Cluster.{Cluster, ClusterEvent, Setup, cluster_after, cluster_happens, part_of, parts_of}
+use Rattle.qq_cluster_model.specs.ClusterLaws.{HasGroups}
+use Rattle.qq_cluster_model.specs.Laws.{all_moves}
+use Rattle.qq_cluster_model.specs.Queue.{Queue, after}
+use Rattle.qq_cluster_model.proofs.Groups.{KeepsCommits, after-append, group-append, group-is}
 use Rattle.qq_cluster_laws.specs.Held.{Supports, whole_at}
 use Rattle.qq_cluster_laws.specs.Linked.{IsPromised, IsReached}
 use Rattle.qq_cluster_laws.specs.Traced.{ArePromised, IsNoCrash, KeepsAt, KeepsWhere}

@@ -1,13 +1,13 @@
 -- Clusters that something may have led to.
 use Rattle.std.proofs.Common.{◌≡◌, ℕ, List, [], ◌∷◌, ◌++◌, refl, sym, ap, ◌∙◌, subst}
 use Rattle.qq_raft_model.specs.Group.{Event as Move, group_after}
-use Rattle.qq_cluster.specs.Cluster.{Cluster, ClusterEvent, Setup, cluster_after, cluster_happens, new_cluster, parts_of}
-use Rattle.qq_cluster.specs.ClusterLaws.{HasGroups}
-use Rattle.qq_cluster.specs.Laws.{CountsRise, all_moves, queue_after}
-use Rattle.qq_cluster.specs.Queue.{Queue, begin}
-use Rattle.qq_cluster.proofs.Counts.{counts-rise}
-use Rattle.qq_cluster.proofs.EachQueue.{has-queues}
-use Rattle.qq_cluster.proofs.Groups.{group-is}
+use Rattle.qq_cluster_model.specs.Cluster.{Cluster, ClusterEvent, Setup, cluster_after, cluster_happens, new_cluster, parts_of}
+use Rattle.qq_cluster_model.specs.ClusterLaws.{HasGroups}
+use Rattle.qq_cluster_model.specs.Laws.{CountsRise, all_moves, queue_after}
+use Rattle.qq_cluster_model.specs.Queue.{Queue, begin}
+use Rattle.qq_cluster_model.proofs.Counts.{counts-rise}
+use Rattle.qq_cluster_model.proofs.EachQueue.{has-queues}
+use Rattle.qq_cluster_model.proofs.Groups.{group-is}
 use Rattle.qq_cluster_laws.specs.Linked.{IsReached}
 
 pub after-both : (c : Cluster) (first second : List ClusterEvent)

@@ -2,7 +2,7 @@
 use Rattle.std.proofs.Common.{◌≡◌, ℕ, Bool, true, false, List, [], ◌∷◌, ◌++◌, Option, Some, None, refl, sym, ap, ◌∙◌, inl, inr}
 use Rattle.std.specs.Prelude.{nat_eq}
 use Rattle.std.proofs.lemmas.Bool.{cases_Bool, or_left, or_right}
-use Rattle.qq_cluster.specs.Cluster.{ClusterEvent, Fails, FindsEach}
+use Rattle.qq_cluster_model.specs.Cluster.{ClusterEvent, Fails, FindsEach}
 use Rattle.qq_cluster_laws.specs.Restarts.{first_of, first_restart, restarted_by}
 use Rattle.qq_cluster_laws.specs.Serves.{fails_at, is_failure_at}
 

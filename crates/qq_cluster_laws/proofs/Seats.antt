@@ -13,7 +13,7 @@ use Rattle.qq_raft_model.specs.Server.{Input, restart, step}
 use Rattle.qq_raft_model.specs.State.{Server}
 use Rattle.qq_raft_msg.specs.Rpc.{envelope}
 use Rattle.qq_raft_msg.specs.declared.rpc.Rpc.{Rpc}
-use Rattle.qq_cluster.specs.Queue.{Queue, Event, Mutes, Ends, Submits, TellsEnded, TellsNotTaken, Attaches, Judges, Resends, Fetches, Downs, Ticks, Delivers, Loses, Copies, Writes, Syncs, Notices, Stops, Finds, leader, moves, offered, submits, waiting}
+use Rattle.qq_cluster_model.specs.Queue.{Queue, Event, Mutes, Ends, Submits, TellsEnded, TellsNotTaken, Attaches, Judges, Resends, Fetches, Downs, Ticks, Delivers, Loses, Copies, Writes, Syncs, Notices, Stops, Finds, leader, moves, offered, submits, waiting}
 use Rattle.qq_cluster_laws.specs.Unseen.{touches}
 
 -- ---- what a step of a server leaves of its seat

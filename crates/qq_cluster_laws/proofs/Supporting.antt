@@ -17,13 +17,13 @@ use Rattle.qq_raft_protocol.specs.World.{Lane}
 use Rattle.qq_raft_protocol.proofs.Fewer.{supported-fewer}
 use Rattle.qq_base.proofs.Fronts.{front-refl}
 use Rattle.qq_wal_chain.specs.Lanes.{Lanes}
-use Rattle.qq_cluster.specs.Cluster.{Cluster, ClusterEvent, Setup, cluster_after, members, new_cluster, parts_of}
-use Rattle.qq_cluster.specs.ClusterLaws.{HasGroups}
-use Rattle.qq_cluster.specs.Laws.{all_moves, queue_after}
-use Rattle.qq_cluster.specs.Queue.{Queue, begin}
-use Rattle.qq_cluster.proofs.Counts.{counts-rise}
-use Rattle.qq_cluster.proofs.EachQueue.{has-queues}
-use Rattle.qq_cluster.proofs.Groups.{group-is}
+use Rattle.qq_cluster_model.specs.Cluster.{Cluster, ClusterEvent, Setup, cluster_after, members, new_cluster, parts_of}
+use Rattle.qq_cluster_model.specs.ClusterLaws.{HasGroups}
+use Rattle.qq_cluster_model.specs.Laws.{all_moves, queue_after}
+use Rattle.qq_cluster_model.specs.Queue.{Queue, begin}
+use Rattle.qq_cluster_model.proofs.Counts.{counts-rise}
+use Rattle.qq_cluster_model.proofs.EachQueue.{has-queues}
+use Rattle.qq_cluster_model.proofs.Groups.{group-is}
 use Rattle.qq_cluster_laws.specs.Held.{MayHold, Supports, whole_at}
 use Rattle.qq_cluster_laws.specs.Linked.{IsPromised, lot_of, parts_at}
 

@@ -4,7 +4,7 @@ use Rattle.std.proofs.lemmas.Bool.{eqb-true}
 use Rattle.qq_disk.specs.Disk.{Disk, now}
 use Rattle.qq_disk.specs.Moments.{Adds}
 use Rattle.qq_disk.proofs.Moments.{adds-none, adds-now, adds-same, adds-then, adds-weaker}
-use Rattle.qq_cluster.specs.Cluster.{Cluster, ClusterEvent, Setup, Sets, Alike, At, NodeWrites, NodeSyncs, Fails, Crashes, FindsEach, Shows, SaysDown, SaysNoSuch, SaysUnroutable, SaysBusy, SaysEnded, cluster_after, cluster_happens}
+use Rattle.qq_cluster_model.specs.Cluster.{Cluster, ClusterEvent, Setup, Sets, Alike, At, NodeWrites, NodeSyncs, Fails, Crashes, FindsEach, Shows, SaysDown, SaysNoSuch, SaysUnroutable, SaysBusy, SaysEnded, cluster_after, cluster_happens}
 use Rattle.qq_cluster_laws.specs.Linked.{IsLinked, IsPromised}
 use Rattle.qq_cluster_laws.specs.Traced.{HasNoCrash, IsBrokenAt, IsFair, IsNoCrash, IsPromisedSince, IsTracedAt, Keeps, KeepsAt, KeepsWhere, StaysPromised, TracesTo}
 use Rattle.qq_cluster_laws.specs.Unseen.{sees}

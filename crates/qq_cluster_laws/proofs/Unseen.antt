@@ -9,8 +9,8 @@ use Rattle.qq_disk.specs.Disk.{Disk}
 use Rattle.qq_lots.specs.Kept.{IsTied, KeepsPromised}
 use Rattle.qq_lots.specs.Lots.{Parts}
 use Rattle.qq_raft_model.specs.Group.{Seat, may_restart}
-use Rattle.qq_cluster.specs.Cluster.{Cluster, ClusterEvent, Setup, MutesEach, EndsEach, Sets, Alike, At, NodeWrites, NodeSyncs, Fails, Crashes, FindsEach, Shows, SaysDown, SaysNoSuch, SaysUnroutable, SaysBusy, SaysEnded, cluster_happens}
-use Rattle.qq_cluster.specs.Queue.{Queue, Event, Mutes, Ends, Submits, TellsEnded, TellsNotTaken, Attaches, Judges, Resends, Fetches, Downs, Ticks, Delivers, Loses, Copies, Writes, Syncs, Notices, Stops, Finds, after, happens, moves, synced_after}
+use Rattle.qq_cluster_model.specs.Cluster.{Cluster, ClusterEvent, Setup, MutesEach, EndsEach, Sets, Alike, At, NodeWrites, NodeSyncs, Fails, Crashes, FindsEach, Shows, SaysDown, SaysNoSuch, SaysUnroutable, SaysBusy, SaysEnded, cluster_happens}
+use Rattle.qq_cluster_model.specs.Queue.{Queue, Event, Mutes, Ends, Submits, TellsEnded, TellsNotTaken, Attaches, Judges, Resends, Fetches, Downs, Ticks, Delivers, Loses, Copies, Writes, Syncs, Notices, Stops, Finds, after, happens, moves, synced_after}
 use Rattle.qq_cluster_laws.specs.Linked.{IsLinked, IsPromised, MembersFollow, lot_of, part_at, parts_at}
 use Rattle.qq_cluster_laws.specs.Unseen.{sees, touches}
 use Rattle.qq_cluster_laws.proofs.Seats.{event-leaves, is_up, moves-leave, ops-step, up-step}

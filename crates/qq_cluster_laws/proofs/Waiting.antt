@@ -24,10 +24,10 @@ use Rattle.qq_raft_model.specs.Promises.{AreDistinct, IsLeft, IsOpened}
 use Rattle.qq_raft_model.specs.State.{Server}
 use Rattle.qq_raft_protocol.specs.World.{Lane}
 use Rattle.qq_wal_chain.specs.Lanes.{of_queue}
-use Rattle.qq_cluster.specs.Cluster.{Cluster, NodeWrites, Setup, cluster_happens, members}
-use Rattle.qq_cluster.specs.ClusterLaws.{HasGroups}
-use Rattle.qq_cluster.specs.Laws.{CountsRise}
-use Rattle.qq_cluster.specs.Queue.{Queue, Writes, happens, waiting, waiting_by}
+use Rattle.qq_cluster_model.specs.Cluster.{Cluster, NodeWrites, Setup, cluster_happens, members}
+use Rattle.qq_cluster_model.specs.ClusterLaws.{HasGroups}
+use Rattle.qq_cluster_model.specs.Laws.{CountsRise}
+use Rattle.qq_cluster_model.specs.Queue.{Queue, Writes, happens, waiting, waiting_by}
 use Rattle.qq_cluster_laws.specs.Linked.{IsReached, lot_of, part_at, parts_at}
 use Rattle.qq_cluster_laws.specs.Waiting.{AllWait, AreApart, HasOwnGroups, IsChangeOf, all_waiting, ops_by, ops_waiting, ops_with_waiting}
 use Rattle.qq_cluster_laws.proofs.Own.{IsOwnGroup, own-moves}

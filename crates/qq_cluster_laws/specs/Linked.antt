@@ -5,8 +5,8 @@ use Rattle.qq_disk.specs.Disk.{Disk}
 use Rattle.qq_lots.specs.Kept.{IsTied, KeepsPromised}
 use Rattle.qq_lots.specs.Lots.{Lot, Part, Parts}
 use Rattle.qq_raft_model.specs.Group.{has_node}
-use Rattle.qq_cluster.specs.Cluster.{Cluster, ClusterEvent, Setup, cluster_after, members, new_cluster}
-use Rattle.qq_cluster.specs.Queue.{Queue}
+use Rattle.qq_cluster_model.specs.Cluster.{Cluster, ClusterEvent, Setup, cluster_after, members, new_cluster}
+use Rattle.qq_cluster_model.specs.Queue.{Queue}
 
 -- a cluster that something may have led to
 abbrev pub IsReached : Setup → Cluster → Type 0

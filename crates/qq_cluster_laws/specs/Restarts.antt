@@ -1,6 +1,6 @@
 -- What the first restart of a node has come to.
 use Rattle.std.specs.Prelude.{ℕ, Bool, true, false, List, [], ◌∷◌, Option, Some, None, nat_eq, if◌then◌else◌}
-use Rattle.qq_cluster.specs.Cluster.{ClusterEvent, Fails, FindsEach}
+use Rattle.qq_cluster_model.specs.Cluster.{ClusterEvent, Fails, FindsEach}
 
 -- a node is recovered, true, or its disk fails, false
 abbrev pub restarted_by : ℕ → ClusterEvent → Option Bool

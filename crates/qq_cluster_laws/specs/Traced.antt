@@ -14,7 +14,7 @@ use Rattle.qq_raft_protocol.specs.Facts.{In}
 use Rattle.qq_recover.specs.Reading.{lanes_read, shown}
 use Rattle.qq_wal_chain.specs.Lanes.{Lanes}
 use Rattle.qq_wal_chain.specs.Laws.{IsHonestImage}
-use Rattle.qq_cluster.specs.Cluster.{Cluster, ClusterEvent, Setup, NodeWrites, Crashes, FindsEach, cluster_happens}
+use Rattle.qq_cluster_model.specs.Cluster.{Cluster, ClusterEvent, Setup, NodeWrites, Crashes, FindsEach, cluster_happens}
 use Rattle.qq_cluster_laws.specs.Linked.{IsLinked, IsPromised, lot_of, parts_at}
 use Rattle.qq_cluster_laws.specs.Unseen.{sees}
 

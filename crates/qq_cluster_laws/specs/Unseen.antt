@@ -1,7 +1,7 @@
 -- Which events a node's log sees.
 use Rattle.std.specs.Prelude.{ℕ, Bool, false, Option, Some, None, nat_eq}
-use Rattle.qq_cluster.specs.Cluster.{ClusterEvent, At, NodeWrites, NodeSyncs, Fails, Crashes, FindsEach}
-use Rattle.qq_cluster.specs.Queue.{Event, Writes, Syncs, Stops, Finds}
+use Rattle.qq_cluster_model.specs.Cluster.{ClusterEvent, At, NodeWrites, NodeSyncs, Fails, Crashes, FindsEach}
+use Rattle.qq_cluster_model.specs.Queue.{Event, Writes, Syncs, Stops, Finds}
 
 -- the node whose log is written, synced or found, or whose member stops
 abbrev pub touched : Event → Option ℕ

@@ -7,8 +7,8 @@ use Rattle.qq_log.specs.declared.op.Op.TheVariants.{Change, SnapshotMade, Segmen
 use Rattle.qq_lots.specs.Lots.{ops_at}
 use Rattle.qq_raft_model.specs.Group.{Group}
 use Rattle.qq_raft_model.specs.State.{Server}
-use Rattle.qq_cluster.specs.Cluster.{Cluster, Setup}
-use Rattle.qq_cluster.specs.Queue.{Queue}
+use Rattle.qq_cluster_model.specs.Cluster.{Cluster, Setup}
+use Rattle.qq_cluster_model.specs.Queue.{Queue}
 use Rattle.qq_cluster_laws.specs.Linked.{lot_of}
 
 -- ---- what waits

@@ -6,15 +6,15 @@ ghost use Rattle.qq_log.specs.declared.op.Op.{Op};
 ghost use Rattle.qq_log.specs.Op.{queue};
 ghost use Rattle.qq_log.specs.Stable.{Stable, stable};
 ghost use Rattle.qq_lots.specs.Lots.{give, give_batch, ids_of};
-ghost use Rattle.qq_cluster.specs.Cluster.{Cluster, Setup};
-ghost use Rattle.qq_cluster.specs.ClusterLaws.{HasGroups};
-ghost use Rattle.qq_cluster.specs.Queue.{Queue, Writes, happens};
+ghost use Rattle.qq_cluster_model.specs.Cluster.{Cluster, Setup};
+ghost use Rattle.qq_cluster_model.specs.ClusterLaws.{HasGroups};
+ghost use Rattle.qq_cluster_model.specs.Queue.{Queue, Writes, happens};
 ghost use Rattle.qq_cluster_laws.specs.Linked.{IsReached, lot_of, part_at, parts_at};
 ghost use Rattle.qq_cluster_laws.specs.Waiting.{AllWait, AreApart, HasOwnGroups, IsChangeOf, all_waiting, ops_waiting, ops_with_waiting};
 
 use qq_raft_model::the_disks_support_the_audit;
 
-/// A law: what a node's log was given of a queue, and what waits behind it.
+/// A law: the ops of a queue that a node's log was given, and those that wait to follow them.
 ///
 /// - `own`: all of it are changes of that queue.
 /// - `gives`: a write gives the log what waits of each queue.

@@ -3,8 +3,8 @@
 ghost use Rattle.std.specs.Prelude.{List, ℕ};
 ghost use Rattle.qq_raft_protocol.specs.Facts.{In};
 ghost use Rattle.qq_disk.specs.Disk.{Disk};
-ghost use Rattle.qq_cluster.specs.Cluster.{ClusterEvent, Setup, cluster_after, new_cluster};
-ghost use Rattle.qq_cluster.specs.ClusterLaws.{HasGroups};
+ghost use Rattle.qq_cluster_model.specs.Cluster.{ClusterEvent, Setup, cluster_after, new_cluster};
+ghost use Rattle.qq_cluster_model.specs.ClusterLaws.{HasGroups};
 ghost use Rattle.qq_cluster_laws.specs.Held.{Supports};
 ghost use Rattle.qq_cluster_laws.specs.Linked.{IsPromised};
 

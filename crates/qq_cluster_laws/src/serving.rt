@@ -4,23 +4,24 @@ ghost use Rattle.qq_base.specs.Causes.{Rose};
 ghost use Rattle.qq_disk.specs.Disk.{Disk, now};
 ghost use Rattle.qq_disk.specs.Moments.{Adds};
 ghost use Rattle.qq_raft_protocol.specs.Facts.{In};
-ghost use Rattle.qq_cluster.specs.Cluster.{Cluster, ClusterEvent, Setup, cluster_after, new_cluster};
-ghost use Rattle.qq_cluster.specs.ClusterLaws.{HasGroups};
-ghost use Rattle.qq_cluster.specs.Outcome.{Outcome, takers_after};
-ghost use Rattle.qq_cluster.specs.Texts.{text_of};
+ghost use Rattle.qq_cluster_model.specs.Cluster.{Cluster, ClusterEvent, Setup, cluster_after, new_cluster};
+ghost use Rattle.qq_cluster_model.specs.ClusterLaws.{HasGroups};
+ghost use Rattle.qq_cluster_model.specs.Outcome.{Outcome, takers_after};
+ghost use Rattle.qq_cluster_model.specs.Texts.{text_of};
 ghost use Rattle.qq_cluster_laws.specs.Answers.{KeepsAnswers};
 ghost use Rattle.qq_cluster_laws.specs.Linked.{IsLinked, IsPromised};
 ghost use Rattle.qq_cluster_laws.specs.Serves.{GivesUp, Happened, Seen, Serves, fails_at};
 ghost use Rattle.qq_cluster_laws.specs.Traced.{ArePromised, HasNoCrash, IsPromisedSince, IsTracedAt};
 
-use qq_cluster::a_cluster_prints_what_is_true;
+use qq_cluster_model::a_cluster_prints_what_is_true;
 use qq_lots::whatever_is_left_lies_between;
 use qq_raft_model::{the_disks_support_the_audit, what_a_group_committed_stays};
 
 /// A law: of a call by which these events happened, so that this cluster stands.
 ///
 /// - `text`: the cluster is as they leave it, what they print was added to the text, and takers saw what they show.
-/// - `disks`: each disk tells what it told. Where it tells, and its log was linked, the events are traced on it.
+/// - `disks`: a disk shows its contents exactly where it did before. Where it does, and its log was linked, the events
+///   are traced on it.
 pub fn what_happened_is_on_the_disks()
     ensures text { (setup : Setup) (c last : Cluster) (done : List ClusterEvent) (a b : ℕ → Seen)
         (before later : Outcome) →

@@ -14,17 +14,18 @@ use Rattle.qq_entry.specs.declared.command.Stamp.{Stamp}
 use Rattle.qq_entry.specs.declared.command.Unstamped.{Unstamped}
 use Rattle.qq_model.proofs.Soundness.{in_contains}
 use Rattle.qq_session.specs.Publishing.{closes}
-use Rattle.qq_session.specs.Shown.{Shown, Answered, Attached, IsBusy, Taken}
+use Rattle.qq_session.specs.declared.shown.Shown.{Shown}
+use Rattle.qq_session.specs.declared.shown.Shown.TheVariants.{Answered, Attached, IsBusy, Taken}
 use Rattle.qq_taker.specs.Seats.{is_of, sit}
 use Rattle.qq_taker.specs.declared.handed.Handed.{Handed}
 use Rattle.qq_taker.specs.declared.seats.Leaving.{Leaving}
 use Rattle.qq_taker.specs.declared.seats.Seat.{Seat}
 use Rattle.qq_taker.specs.declared.taker.Verdict.{Verdict}
 use Rattle.qq_taker.specs.declared.taker.Verdict.TheVariants.{Keep}
-use Rattle.qq_cluster.specs.Cluster.{At, Cluster, ClusterEvent, cluster_after, cluster_happens}
-use Rattle.qq_cluster.specs.Queue.{Attaches, Event, Judges, Queue, attach, attached, happens, said}
-use Rattle.qq_cluster.specs.Rules.{IsCommanded, IsGiven, IsJudgedWhere, IsNextJudged, IsTold, Tells, Then, Times}
-use Rattle.qq_cluster.specs.Taking.{answers, command_for, delivered, dropped_by, has_taker, judged, judged_by, leaving_at, leaving_by, seated, seated_by, told_of, unjudged, waiting_of}
+use Rattle.qq_cluster_model.specs.Cluster.{At, Cluster, ClusterEvent, cluster_after, cluster_happens}
+use Rattle.qq_cluster_model.specs.Queue.{Attaches, Event, Judges, Queue, attach, attached, happens, said}
+use Rattle.qq_cluster_model.specs.Rules.{IsCommanded, IsGiven, IsJudgedWhere, IsNextJudged, IsTold, Tells, Then, Times}
+use Rattle.qq_cluster_model.specs.Taking.{answers, command_for, delivered, dropped_by, has_taker, judged, judged_by, leaving_at, leaving_by, seated, seated_by, told_of, unjudged, waiting_of}
 
 -- ---- what waits
 

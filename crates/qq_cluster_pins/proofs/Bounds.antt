@@ -7,10 +7,10 @@ use Rattle.qq_base.proofs.Lists.{AllByRecursion-in, In, list_any-from_in}
 use Rattle.qq_model.proofs.Soundness.{Contains-in, in_contains}
 use Rattle.qq_raft_model.specs.Group.{Group, has_node, is_down, may_restart}
 use Rattle.qq_raft_model.specs.State.{Server}
-use Rattle.qq_cluster.proofs.Takerless.{AreAt, IsAt, queue-at, tells-at, told-nothing}
-use Rattle.qq_cluster.specs.Cluster.{At, Cluster, ClusterEvent, Fails, FindsEach, NodeSyncs, NodeWrites, Setup, cluster_after}
-use Rattle.qq_cluster.specs.Queue.{Notices, Queue, happens, waiting, waiting_by}
-use Rattle.qq_cluster.specs.Rules.{IsFound, IsNothing, IsNotice, IsRestart, IsSync, IsSynced, IsWrite, IsWritten, MayRoll, Tells, if_so, may_find, some_queue, waits_noticed, waits_synced, waits_written}
+use Rattle.qq_cluster_model.proofs.Takerless.{AreAt, IsAt, queue-at, tells-at, told-nothing}
+use Rattle.qq_cluster_model.specs.Cluster.{At, Cluster, ClusterEvent, Fails, FindsEach, NodeSyncs, NodeWrites, Setup, cluster_after}
+use Rattle.qq_cluster_model.specs.Queue.{Notices, Queue, happens, waiting, waiting_by}
+use Rattle.qq_cluster_model.specs.Rules.{IsFound, IsNothing, IsNotice, IsRestart, IsSync, IsSynced, IsWrite, IsWritten, MayRoll, Tells, if_so, may_find, some_queue, waits_noticed, waits_synced, waits_written}
 
 -- ---- tests over queues
 

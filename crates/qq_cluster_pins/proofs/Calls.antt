@@ -3,9 +3,9 @@ use Rattle.std.proofs.Common.{◌≡◌, ℕ, ◌≤◌, ◌<◌, List, ◌++◌
 use Rattle.std.specs.Prelude.{◌⊎◌, ◌-◌, ◌^◌, Contains, IsTrue, true}
 use Rattle.qq_disk.specs.declared.image.Image.{Image}
 use Rattle.qq_disk.specs.Disk.{now}
-use Rattle.qq_cluster.specs.Cluster.{Cluster, ClusterEvent, Crashes, Fails, Setup, cluster_after}
-use Rattle.qq_cluster.specs.Outcome.{Outcome, takers_after}
-use Rattle.qq_cluster.specs.Texts.{text_of}
+use Rattle.qq_cluster_model.specs.Cluster.{Cluster, ClusterEvent, Crashes, Fails, Setup, cluster_after}
+use Rattle.qq_cluster_model.specs.Outcome.{Outcome, takers_after}
+use Rattle.qq_cluster_model.specs.Texts.{text_of}
 use Rattle.qq_cluster_laws.specs.Linked.{IsLinked}
 use Rattle.qq_cluster_laws.specs.Serves.{GivesUp, Happened, Seen, Serves, fails_at}
 use Rattle.qq_cluster_laws.specs.Traced.{HasNoCrash, IsBrokenAt, IsTracedAt}

@@ -2,9 +2,9 @@
 use Rattle.std.proofs.Common.{◌≡◌, ℕ, Bool, false, ◌||◌, List, [], ◌∷◌, ◌++◌, refl, sym, ap, ◌∙◌, inl, inr}
 use Rattle.std.proofs.lemmas.Bool.{false≢true, or_parts}
 use Rattle.qq_base.proofs.Lists.{In}
-use Rattle.qq_cluster.specs.Cluster.{ClusterEvent, Sets, Alike, At, NodeWrites, NodeSyncs, Fails, Crashes, FindsEach, Shows, SaysDown, SaysNoSuch, SaysUnroutable, SaysBusy, SaysEnded}
-use Rattle.qq_cluster.specs.ClusterLaws.{finding, findings, has_failure, is_failure, verdict_at, verdict_by, verdicts}
-use Rattle.qq_cluster.specs.Queue.{Event, Judges}
+use Rattle.qq_cluster_model.specs.Cluster.{ClusterEvent, Sets, Alike, At, NodeWrites, NodeSyncs, Fails, Crashes, FindsEach, Shows, SaysDown, SaysNoSuch, SaysUnroutable, SaysBusy, SaysEnded}
+use Rattle.qq_cluster_model.specs.ClusterLaws.{finding, findings, has_failure, is_failure, verdict_at, verdict_by, verdicts}
+use Rattle.qq_cluster_model.specs.Queue.{Event, Judges}
 use Rattle.qq_taker.specs.declared.taker.Verdict.{Verdict}
 
 verdict-one : (event : Event) → ((verdict : Verdict) → Judges verdict ≡ event → ⊥) → verdict_by event ≡ []

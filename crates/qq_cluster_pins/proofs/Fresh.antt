@@ -9,12 +9,12 @@ use Rattle.qq_raft_model.specs.Promises.{members_of}
 use Rattle.qq_raft_model.specs.Server.{is_ready}
 use Rattle.qq_raft_model.specs.State.{Server}
 use Rattle.qq_raft_protocol.specs.Facts.{In as Among}
-use Rattle.qq_cluster.specs.Cluster.{Cluster, Setup, members}
-use Rattle.qq_cluster.specs.Example.{setup_of}
-use Rattle.qq_cluster.specs.Queue.{leader}
-use Rattle.qq_cluster.specs.Rules.{is_idle}
-use Rattle.qq_progress.specs.Opened.{AreNewGroups, FirstLeads, HasOpened, IsNewGroup}
-use Rattle.qq_progress.specs.Soon.{AreNodes, AreOnce}
+use Rattle.qq_cluster_model.specs.Cluster.{Cluster, Setup, members}
+use Rattle.qq_cluster_model.specs.Example.{setup_of}
+use Rattle.qq_cluster_model.specs.Queue.{leader}
+use Rattle.qq_cluster_model.specs.Rules.{is_idle}
+use Rattle.qq_cluster_progress_laws.specs.Opened.{AreNewGroups, FirstLeads, HasOpened, IsNewGroup}
+use Rattle.qq_cluster_progress_laws.specs.Soon.{AreNodes, AreOnce}
 
 -- ---- an opening
 

@@ -24,12 +24,12 @@ use Rattle.qq_raft_model.specs.State.{Server}
 use Rattle.qq_raft_protocol.specs.Facts.{In as Among, add}
 use Rattle.qq_raft_protocol.specs.Safe.{IsCarried}
 use Rattle.qq_raft_protocol.specs.World.{Lane}
-use Rattle.qq_session.specs.Shown.{Answered}
+use Rattle.qq_session.specs.declared.shown.Shown.TheVariants.{Answered}
 use Rattle.qq_wal.specs.Running.{top}
 use Rattle.qq_wal_chain.specs.Lanes.{Lanes}
 use Rattle.qq_wal_chain.specs.Laws.{IsHonestImage, lanes_read}
-use Rattle.qq_cluster.specs.Cluster.{Cluster, ClusterEvent, Of, Setup, all_prints, cluster_after, members, new_cluster}
-use Rattle.qq_cluster.specs.ClusterLaws.{HasGroups}
+use Rattle.qq_cluster_model.specs.Cluster.{Cluster, ClusterEvent, Of, Setup, all_prints, cluster_after, members, new_cluster}
+use Rattle.qq_cluster_model.specs.ClusterLaws.{HasGroups}
 use Rattle.qq_cluster_laws.specs.Answers.{HasMajority, IsKept, KeepsAnswers}
 use Rattle.qq_cluster_laws.specs.Held.{MayHold, Supports, whole_at}
 use Rattle.qq_cluster_laws.specs.Linked.{IsPromised, IsReached, MembersFollow, lot_of, parts_at}

@@ -6,7 +6,7 @@ use Rattle.qq_base.specs.declared.ids.NodeId.{NodeId}
 use Rattle.qq_raft_model.specs.Group.{Group, has_node}
 use Rattle.qq_raft_model.specs.Server.{is_ready}
 use Rattle.qq_raft_model.specs.State.{Server}
-use Rattle.qq_cluster.specs.Queue.{Leading, later, latest, leader, leading, node_of}
+use Rattle.qq_cluster_model.specs.Queue.{Leading, later, latest, leader, leading, node_of}
 
 module _ (g : Group) where
   -- a member that is up and takes commands

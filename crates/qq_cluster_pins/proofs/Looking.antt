@@ -15,11 +15,11 @@ use Rattle.qq_model.specs.declared.place.Row.{Row}
 use Rattle.qq_taker.specs.Takers.{Takers, hear}
 use Rattle.qq_taker.specs.declared.heard.Heard.{Heard}
 use Rattle.qq_taker.specs.declared.seats.Seat.{Seat}
-use Rattle.qq_cluster.specs.Cluster.{Setup, Cluster, ClusterEvent, Sets, Alike, At, NodeWrites, NodeSyncs, Fails, Crashes, FindsEach, Shows, SaysDown, SaysNoSuch, SaysUnroutable, SaysBusy, SaysEnded, members_in_order, state_at}
-use Rattle.qq_cluster.specs.Counts.{counts_of}
-use Rattle.qq_cluster.specs.Laws.{IsNewTaker, gives}
-use Rattle.qq_cluster.specs.Outcome.{sees_prints, takers_after}
-use Rattle.qq_cluster.specs.Queue.{Event, Queue, Attaches}
+use Rattle.qq_cluster_model.specs.Cluster.{Setup, Cluster, ClusterEvent, Sets, Alike, At, NodeWrites, NodeSyncs, Fails, Crashes, FindsEach, Shows, SaysDown, SaysNoSuch, SaysUnroutable, SaysBusy, SaysEnded, members_in_order, state_at}
+use Rattle.qq_cluster_model.specs.Counts.{counts_of}
+use Rattle.qq_cluster_model.specs.Laws.{IsNewTaker, gives}
+use Rattle.qq_cluster_model.specs.Outcome.{sees_prints, takers_after}
+use Rattle.qq_cluster_model.specs.Queue.{Event, Queue, Attaches}
 
 -- ---- events of no queue
 

@@ -13,7 +13,7 @@ use Rattle.qq_model.proofs.Soundness.{in_contains}
 use Rattle.qq_raft_model.specs.Group.{has_node, new_group}
 use Rattle.qq_raft_model.specs.State.{Server}
 use Rattle.qq_wal_chain.specs.Lanes.{of_queue}
-use Rattle.qq_cluster.specs.Cluster.{Cluster, Setup, members}
+use Rattle.qq_cluster_model.specs.Cluster.{Cluster, Setup, members}
 use Rattle.qq_cluster_laws.specs.Linked.{lot_of}
 use Rattle.qq_cluster_laws.specs.Waiting.{AllWait, HasOwnGroups, IsChangeOf, IsGroupOf, ops_by, ops_waiting, ops_with_waiting}
 use Rattle.qq_cluster_pins.proofs.Images.{in-lot}

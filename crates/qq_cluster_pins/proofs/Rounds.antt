@@ -6,10 +6,10 @@ use Rattle.std.proofs.lemmas.Bool.{and_from, and_parts, cond_both, cond-true, eq
 use Rattle.qq_base.proofs.Lists.{In}
 use Rattle.qq_model.proofs.Soundness.{Contains-in, in_contains}
 use Rattle.qq_raft_model.specs.State.{Server}
-use Rattle.qq_cluster.specs.Cluster.{At, Cluster, ClusterEvent, NodeSyncs, NodeWrites, SaysBusy, Setup, cluster_after, cluster_happens}
-use Rattle.qq_cluster.specs.Queue.{Delivers, Event, Judges, Notices, Queue, waiting, waiting_by}
-use Rattle.qq_cluster.specs.Rules.{ForEach, Is, IsEmptied, IsJudgedWhere, IsNextJudged, IsNodeRound, IsNothing, IsNotice, IsPump, IsRound, IsSync, IsSynced, IsTold, IsWrite, IsWritten, MayRoll, Pumps, Rule, Tells, Then, Times, if_so, is_idle, is_quiet, is_quiet_at, is_settled, most_rounds, some_queue, waits_noticed, waits_synced, waits_written}
-use Rattle.qq_cluster.specs.Serving as does
+use Rattle.qq_cluster_model.specs.Cluster.{At, Cluster, ClusterEvent, NodeSyncs, NodeWrites, SaysBusy, Setup, cluster_after, cluster_happens}
+use Rattle.qq_cluster_model.specs.Queue.{Delivers, Event, Judges, Notices, Queue, waiting, waiting_by}
+use Rattle.qq_cluster_model.specs.Rules.{ForEach, Is, IsEmptied, IsJudgedWhere, IsNextJudged, IsNodeRound, IsNothing, IsNotice, IsPump, IsRound, IsSync, IsSynced, IsTold, IsWrite, IsWritten, MayRoll, Pumps, Rule, Tells, Then, Times, if_so, is_idle, is_quiet, is_quiet_at, is_settled, most_rounds, some_queue, waits_noticed, waits_synced, waits_written}
+use Rattle.qq_cluster_model.specs.Serving as does
 use Rattle.qq_taker.specs.declared.handed.Handed.{Handed}
 use Rattle.qq_taker.specs.declared.taker.Verdict.TheVariants.{Keep}
 

@@ -17,8 +17,8 @@ use Rattle.qq_recover.specs.Reading.{lanes_read as lanes_found, shown}
 use Rattle.qq_wal_chain.specs.Lanes.{Lanes}
 use Rattle.qq_wal.specs.Running.{top}
 use Rattle.qq_wal_chain.specs.Laws.{IsHonestImage, lanes_read}
-use Rattle.qq_cluster.specs.Cluster.{Cluster, ClusterEvent, Sets, Alike, At, NodeWrites, NodeSyncs, Fails, Crashes, FindsEach, Shows, SaysDown, SaysNoSuch, SaysUnroutable, SaysBusy, SaysEnded, Setup, cluster_after, cluster_happens, members}
-use Rattle.qq_cluster.specs.ClusterLaws.{HasGroups}
+use Rattle.qq_cluster_model.specs.Cluster.{Cluster, ClusterEvent, Sets, Alike, At, NodeWrites, NodeSyncs, Fails, Crashes, FindsEach, Shows, SaysDown, SaysNoSuch, SaysUnroutable, SaysBusy, SaysEnded, Setup, cluster_after, cluster_happens, members}
+use Rattle.qq_cluster_model.specs.ClusterLaws.{HasGroups}
 use Rattle.qq_raft_protocol.specs.Facts.{In as Among}
 use Rattle.qq_cluster_laws.specs.Always.{SupportAlways, is_crash}
 use Rattle.qq_cluster_laws.specs.Held.{Supports}

@@ -8,14 +8,14 @@ use Rattle.qq_raft_model.specs.Leading.{send, add_entry, stand, lead, lead_if_el
 use Rattle.qq_raft_model.specs.Server.{refuse, give_vote, receive_vote, receive_voted, take_entries, refuse_entries, receive_append, take_ack, step_back, receive_appended, accept, receive, tick, submit, notice}
 use Rattle.qq_raft_model.specs.State.{change, enter, say_all}
 use Rattle.qq_script_lines.specs.declared.line.ScriptLine.TheVariants.{Pump}
-use Rattle.qq_cluster.specs.Cluster.{At, Cluster, ClusterEvent, FindsEach, NodeSyncs, NodeWrites, cluster_after, new_cluster}
-use Rattle.qq_cluster.specs.ClusterLaws.{findings, has_failure, verdicts}
-use Rattle.qq_cluster.specs.Example.{setup_of}
-use Rattle.qq_cluster.specs.Lines.{IsLine}
-use Rattle.qq_cluster.specs.Queue.{Delivers, Notices, Ticks}
-use Rattle.qq_cluster.specs.Rules.{most_rounds}
-use Rattle.qq_cluster.specs.Serving.{pump}
-use Rattle.qq_progress.proofs.Unasked.{no-verdicts, of-pumps, takerless-new, takerless-then}
+use Rattle.qq_cluster_model.specs.Cluster.{At, Cluster, ClusterEvent, FindsEach, NodeSyncs, NodeWrites, cluster_after, new_cluster}
+use Rattle.qq_cluster_model.specs.ClusterLaws.{findings, has_failure, verdicts}
+use Rattle.qq_cluster_model.specs.Example.{setup_of}
+use Rattle.qq_cluster_model.specs.Lines.{IsLine}
+use Rattle.qq_cluster_model.specs.Queue.{Delivers, Notices, Ticks}
+use Rattle.qq_cluster_model.specs.Rules.{most_rounds}
+use Rattle.qq_cluster_model.specs.Serving.{pump}
+use Rattle.qq_cluster_progress_laws.proofs.Unasked.{no-verdicts, of-pumps, takerless-new, takerless-then}
 use Rattle.qq_cluster_pins.proofs.Rounds.{met-pump}
 
 abbrev opened : List ClusterEvent

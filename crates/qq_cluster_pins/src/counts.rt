@@ -7,13 +7,13 @@ ghost use Rattle.qq_raft_model.specs.Leading.{is_majority};
 ghost use Rattle.qq_raft_model.specs.State.{Server};
 ghost use Rattle.qq_raft_protocol.specs.Facts.{Most};
 ghost use Rattle.qq_script_lines.specs.declared.line.ScriptLine.TheVariants.{Pump};
-ghost use Rattle.qq_cluster.specs.Cluster.{At, Cluster, ClusterEvent, Fails, FindsEach, NodeSyncs, NodeWrites, SaysBusy, Setup, cluster_after, new_cluster};
-ghost use Rattle.qq_cluster.specs.Example.{setup_of};
-ghost use Rattle.qq_cluster.specs.Lines.{IsLine};
-ghost use Rattle.qq_cluster.specs.Queue.{Delivers, Notices, Ticks};
-ghost use Rattle.qq_cluster.specs.Rules.{ForEach, IsPump, IsRound, is_idle};
+ghost use Rattle.qq_cluster_model.specs.Cluster.{At, Cluster, ClusterEvent, Fails, FindsEach, NodeSyncs, NodeWrites, SaysBusy, Setup, cluster_after, new_cluster};
+ghost use Rattle.qq_cluster_model.specs.Example.{setup_of};
+ghost use Rattle.qq_cluster_model.specs.Lines.{IsLine};
+ghost use Rattle.qq_cluster_model.specs.Queue.{Delivers, Notices, Ticks};
+ghost use Rattle.qq_cluster_model.specs.Rules.{ForEach, IsPump, IsRound, is_idle};
 
-use qq_cluster::{lines_settle, pumps_end};
+use qq_cluster_model::{lines_settle, pumps_end};
 
 /// A law: how many members a leader or a candidate needs, with itself or without: of one member 1, of 2 2, of 3 2,
 /// of 4 3, of 5 3, of 6 4 and of 7 4.

@@ -16,15 +16,15 @@ ghost use Rattle.qq_raft_model.specs.Group.Event.{Submit};
 ghost use Rattle.qq_raft_model.specs.Server.{is_ready};
 ghost use Rattle.qq_raft_model.specs.State.{Server};
 ghost use Rattle.qq_session.specs.Clients.{Clients, ended_by, is_printed, sender};
-ghost use Rattle.qq_session.specs.Shown.{Answered, Delivered, NoLeader, Taken};
+ghost use Rattle.qq_session.specs.declared.shown.Shown.TheVariants.{Answered, Delivered, NoLeader, Taken};
 ghost use Rattle.qq_taker.specs.declared.taker.Verdict.{Verdict};
-ghost use Rattle.qq_cluster.specs.Cluster.{At, Cluster, ClusterEvent, Of, SaysEnded, Setup, all_prints, cluster_after, new_cluster};
-ghost use Rattle.qq_cluster.specs.ClusterLaws.{HasGroups};
-ghost use Rattle.qq_cluster.specs.Laws.{IsBegun};
-ghost use Rattle.qq_cluster.specs.Queue.{Downs, Ends, Event, Queue, Submits, TellsEnded, after, all_said, begin, happens, leader, said};
-ghost use Rattle.qq_cluster.specs.Rules.{IsGiven, IsResend, not_taken};
+ghost use Rattle.qq_cluster_model.specs.Cluster.{At, Cluster, ClusterEvent, Of, SaysEnded, Setup, all_prints, cluster_after, new_cluster};
+ghost use Rattle.qq_cluster_model.specs.ClusterLaws.{HasGroups};
+ghost use Rattle.qq_cluster_model.specs.Laws.{IsBegun};
+ghost use Rattle.qq_cluster_model.specs.Queue.{Downs, Ends, Event, Queue, Submits, TellsEnded, after, all_said, begin, happens, leader, said};
+ghost use Rattle.qq_cluster_model.specs.Rules.{IsGiven, IsResend, not_taken};
 
-use qq_cluster::{
+use qq_cluster_model::{
     a_cluster_prints_what_is_true, an_ended_session_gives_no_commands, ends_go_to_the_leader,
     what_is_printed_is_audited,
 };

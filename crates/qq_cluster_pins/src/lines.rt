@@ -6,13 +6,13 @@ ghost use Rattle.qq_script_lines.specs.declared.line.ScriptLine.{ScriptLine};
 ghost use Rattle.qq_script_lines.specs.declared.line.ScriptLine.TheVariants.{Notice, Sync, Tick, Write};
 ghost use Rattle.qq_taker.specs.declared.taker.Verdict.{Verdict};
 ghost use Rattle.qq_taker.specs.declared.taker.Verdict.TheVariants.{Discard, Keep, Return, Settle};
-ghost use Rattle.qq_cluster.specs.Cluster.{At, Cluster, ClusterEvent, Fails, FindsEach, SaysDown, Setup, new_cluster};
-ghost use Rattle.qq_cluster.specs.ClusterLaws.{HasGroups, verdicts};
-ghost use Rattle.qq_cluster.specs.Lines.{IsLine, IsRun};
-ghost use Rattle.qq_cluster.specs.Queue.{Judges, Notices};
-ghost use Rattle.qq_cluster.specs.Serving.{all_given, run};
+ghost use Rattle.qq_cluster_model.specs.Cluster.{At, Cluster, ClusterEvent, Fails, FindsEach, SaysDown, Setup, new_cluster};
+ghost use Rattle.qq_cluster_model.specs.ClusterLaws.{HasGroups, verdicts};
+ghost use Rattle.qq_cluster_model.specs.Lines.{IsLine, IsRun};
+ghost use Rattle.qq_cluster_model.specs.Queue.{Judges, Notices};
+ghost use Rattle.qq_cluster_model.specs.Serving.{all_given, run};
 
-use qq_cluster::{a_node_that_is_down_says_so, lines_settle, scripts_may_be_served};
+use qq_cluster_model::{a_node_that_is_down_says_so, lines_settle, scripts_may_be_served};
 
 /// A law: a line that writes, syncs, notices or ticks at a node that is down says that it is down, and nothing
 /// else happens.

@@ -11,10 +11,10 @@ ghost use Rattle.qq_recover.specs.Reading.{lanes_read as lanes_found, shown};
 ghost use Rattle.qq_wal.specs.Running.{top};
 ghost use Rattle.qq_wal_chain.specs.Lanes.{Lanes};
 ghost use Rattle.qq_wal_chain.specs.Laws.{IsHonestImage, lanes_read};
-ghost use Rattle.qq_cluster.specs.Cluster.{At, Alike, Cluster, ClusterEvent, Crashes, EndsEach, Fails, FindsEach, NodeSyncs, NodeWrites, Setup, cluster_after, cluster_happens};
-ghost use Rattle.qq_cluster.specs.Queue.{Delivers, Notices, Submits, Ticks};
-ghost use Rattle.qq_cluster.specs.Outcome.{Outcome, takers_after};
-ghost use Rattle.qq_cluster.specs.Texts.{text_of};
+ghost use Rattle.qq_cluster_model.specs.Cluster.{At, Alike, Cluster, ClusterEvent, Crashes, EndsEach, Fails, FindsEach, NodeSyncs, NodeWrites, Setup, cluster_after, cluster_happens};
+ghost use Rattle.qq_cluster_model.specs.Queue.{Delivers, Notices, Submits, Ticks};
+ghost use Rattle.qq_cluster_model.specs.Outcome.{Outcome, takers_after};
+ghost use Rattle.qq_cluster_model.specs.Texts.{text_of};
 ghost use Rattle.qq_entry.specs.declared.command.Unstamped.{Unstamped};
 ghost use Rattle.qq_cluster_laws.specs.Linked.{IsLinked, IsPromised};
 ghost use Rattle.qq_cluster_laws.specs.Serves.{GivesUp, Happened, Leads, Seen, Serves};
@@ -64,8 +64,8 @@ pub fn each_moment_keeps_what_was_synced()
     whatever_is_left_lies_between();
 }
 
-/// A law: a restart finds of each queue of the node what its disk read at some moment of the restart: so many of the
-/// queue's ops come to the state that was read.
+/// A law: a restart finds of each queue of the node what its disk read at some moment of the restart: as many of
+/// the queue's ops give the state that was read.
 pub fn a_restart_finds_what_the_disk_reads()
     ensures { (setup : Setup) (c : Cluster) (k : ℕ) (ops : ℕ → ℕ) (old new : List Disk) →
         let queues = map (λ (p : ℕ). (setup.args p).queue)

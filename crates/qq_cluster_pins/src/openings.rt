@@ -13,15 +13,15 @@ ghost use Rattle.qq_raft_model.specs.Server.{is_ready};
 ghost use Rattle.qq_raft_model.specs.State.{Server};
 ghost use Rattle.qq_raft_protocol.specs.Facts.{In};
 ghost use Rattle.qq_script_lines.specs.declared.line.ScriptLine.TheVariants.{Client, Publish, Send};
-ghost use Rattle.qq_cluster.specs.Cluster.{ClusterEvent, Setup, cluster_after, new_cluster};
-ghost use Rattle.qq_cluster.specs.ClusterLaws.{HasGroups, has_failure};
-ghost use Rattle.qq_cluster.specs.Example.{setup_of};
-ghost use Rattle.qq_cluster.specs.Queue.{leader};
-ghost use Rattle.qq_cluster.specs.Rules.{IsOpening, is_idle};
-ghost use Rattle.qq_progress.specs.Opened.{AreNewGroups};
-ghost use Rattle.qq_progress.specs.Soon.{AreNodes, AreOnce, GivesOne};
+ghost use Rattle.qq_cluster_model.specs.Cluster.{ClusterEvent, Setup, cluster_after, new_cluster};
+ghost use Rattle.qq_cluster_model.specs.ClusterLaws.{HasGroups, has_failure};
+ghost use Rattle.qq_cluster_model.specs.Example.{setup_of};
+ghost use Rattle.qq_cluster_model.specs.Queue.{leader};
+ghost use Rattle.qq_cluster_model.specs.Rules.{IsOpening, is_idle};
+ghost use Rattle.qq_cluster_progress_laws.specs.Opened.{AreNewGroups};
+ghost use Rattle.qq_cluster_progress_laws.specs.Soon.{AreNodes, AreOnce, GivesOne};
 
-use qq_progress::an_opening_gives_each_queue_a_leader;
+use qq_cluster_progress_laws::an_opening_gives_each_queue_a_leader;
 
 /// A law: after an opening over new disks on which no call fails each node is up and nothing is left to do. A queue's
 /// first member leads and takes commands. Each member is up, its log is the leader's, and its term no later; the leader

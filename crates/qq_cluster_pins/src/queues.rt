@@ -11,18 +11,18 @@ ghost use Rattle.qq_raft_model.specs.Group.{Group, has_node, new_group};
 ghost use Rattle.qq_raft_model.specs.Server.{is_ready};
 ghost use Rattle.qq_raft_model.specs.State.{Server};
 ghost use Rattle.qq_wal_chain.specs.Lanes.{of_queue};
-ghost use Rattle.qq_cluster.specs.Cluster.{Cluster, ClusterEvent, Setup, cluster_after, new_cluster, parts_of};
-ghost use Rattle.qq_cluster.specs.ClusterLaws.{HasGroups};
-ghost use Rattle.qq_cluster.specs.Laws.{IsBegun};
-ghost use Rattle.qq_cluster.specs.Queue.{Event, after, begin, own_rows};
+ghost use Rattle.qq_cluster_model.specs.Cluster.{Cluster, ClusterEvent, Setup, cluster_after, new_cluster, parts_of};
+ghost use Rattle.qq_cluster_model.specs.ClusterLaws.{HasGroups};
+ghost use Rattle.qq_cluster_model.specs.Laws.{IsBegun};
+ghost use Rattle.qq_cluster_model.specs.Queue.{Event, after, begin, own_rows};
 ghost use Rattle.qq_cluster_laws.specs.Linked.{IsReached};
 ghost use Rattle.qq_cluster_laws.specs.Waiting.{AllWait, AreApart, HasOwnGroups};
 
-use qq_cluster::{
+use qq_cluster_laws::what_waits_goes_on;
+use qq_cluster_model::{
     a_leader_answers_its_own_term, an_audit_is_serial, each_queue_is_its_own,
     ops_are_noticed_once_synced,
 };
-use qq_cluster_laws::what_waits_goes_on;
 
 /// A law: of a queue to which some events happened.
 ///

@@ -8,11 +8,11 @@ ghost use Rattle.qq_model.specs.Audit.{audit_of};
 ghost use Rattle.qq_model.specs.State.{empty_queue};
 ghost use Rattle.qq_raft_model.specs.Group.{Group, has_node};
 ghost use Rattle.qq_raft_model.specs.State.{Server};
-ghost use Rattle.qq_cluster.specs.Cluster.{At, Cluster, ClusterEvent, Fails, FindsEach, NodeSyncs, NodeWrites, Setup};
-ghost use Rattle.qq_cluster.specs.Queue.{Event, Notices, after, begin, happens};
-ghost use Rattle.qq_cluster.specs.Rules.{IsNotice, IsRestart, IsSync, IsWrite};
+ghost use Rattle.qq_cluster_model.specs.Cluster.{At, Cluster, ClusterEvent, Fails, FindsEach, NodeSyncs, NodeWrites, Setup};
+ghost use Rattle.qq_cluster_model.specs.Queue.{Event, Notices, after, begin, happens};
+ghost use Rattle.qq_cluster_model.specs.Rules.{IsNotice, IsRestart, IsSync, IsWrite};
 
-use qq_cluster::sessions_go_on;
+use qq_cluster_model::sessions_go_on;
 
 /// A law: what happens at a restart.
 ///

@@ -15,7 +15,7 @@ ghost use Rattle.qq_model.specs.declared.place.Row.{Row};
 ghost use Rattle.qq_raft_model.specs.State.{Server};
 ghost use Rattle.qq_raft_model.specs.Group.{Group};
 ghost use Rattle.qq_script_lines.specs.declared.line.ScriptLine.{ScriptLine};
-ghost use Rattle.qq_session.specs.Shown.{Answered, Attached, Delivered, Dropped, HasEnded, IsBusy, NoLeader, NotTaken, Taken, WindowFull};
+ghost use Rattle.qq_session.specs.declared.shown.Shown.TheVariants.{Answered, Attached, Delivered, Dropped, HasEnded, IsBusy, NoLeader, NotTaken, Taken, WindowFull};
 ghost use Rattle.qq_taker.specs.Takers.{Free, Given, Gone, Held, Takers, taker_at};
 ghost use Rattle.qq_taker.specs.declared.handed.Handed.{Handed};
 ghost use Rattle.qq_taker.specs.declared.heard.Heard.{Heard};
@@ -25,14 +25,14 @@ ghost use Rattle.qq_taker.specs.declared.seats.Seat.{Seat};
 ghost use Rattle.qq_taker.specs.declared.taker.Seen.{Seen};
 ghost use Rattle.qq_taker.specs.declared.taker.Verdict.{Verdict};
 ghost use Rattle.qq_taker.specs.declared.taker.Verdict.TheVariants.{Discard, Keep, Settle};
-ghost use Rattle.qq_cluster.specs.Cluster.{At, Busy, Cluster, ClusterEvent, Ended, IsDown, NoSuch, Of, Setup, State as StateOf, Stopped, Unroutable, cluster_after, new_cluster};
-ghost use Rattle.qq_cluster.specs.Counts.{counts_of};
-ghost use Rattle.qq_cluster.specs.Laws.{IsBegun, deliveries_shown, seen_by};
-ghost use Rattle.qq_cluster.specs.Lines.{IsLine, IsRun};
-ghost use Rattle.qq_cluster.specs.Outcome.{all_heard, deliveries_among, sees, sees_all, takers_after};
-ghost use Rattle.qq_cluster.specs.Queue.{Attaches, Event, after, all_said, begin, said};
+ghost use Rattle.qq_cluster_model.specs.Cluster.{At, Busy, Cluster, ClusterEvent, Ended, IsDown, NoSuch, Of, Setup, State as StateOf, Stopped, Unroutable, cluster_after, new_cluster};
+ghost use Rattle.qq_cluster_model.specs.Counts.{counts_of};
+ghost use Rattle.qq_cluster_model.specs.Laws.{IsBegun, deliveries_shown, seen_by};
+ghost use Rattle.qq_cluster_model.specs.Lines.{IsLine, IsRun};
+ghost use Rattle.qq_cluster_model.specs.Outcome.{all_heard, deliveries_among, sees, sees_all, takers_after};
+ghost use Rattle.qq_cluster_model.specs.Queue.{Attaches, Event, after, all_said, begin, said};
 
-use qq_cluster::{nothing_waits_between_lines, takers_see_runs_of_deliveries};
+use qq_cluster_model::{nothing_waits_between_lines, takers_see_runs_of_deliveries};
 use qq_taker::{
     given_takers_see_what_they_are_offered, takers_are_given_once,
     takers_see_nothing_after_the_drop,

@@ -8,16 +8,16 @@ ghost use Rattle.qq_entry.specs.declared.command.Command.TheVariants.{Cancel, Do
 ghost use Rattle.qq_entry.specs.declared.command.Stamp.{Stamp};
 ghost use Rattle.qq_entry.specs.declared.command.Unstamped.TheVariants.{Discard as DiscardIds, Return as ReturnIds, Settle as SettleIds};
 ghost use Rattle.qq_session.specs.Publishing.{closes};
-ghost use Rattle.qq_session.specs.Shown.{Answered, Attached, Delivered, Dropped, IsBusy, Taken};
+ghost use Rattle.qq_session.specs.declared.shown.Shown.TheVariants.{Answered, Attached, Delivered, Dropped, IsBusy, Taken};
 ghost use Rattle.qq_taker.specs.Seats.{sit};
 ghost use Rattle.qq_taker.specs.declared.handed.Handed.{Handed};
 ghost use Rattle.qq_taker.specs.declared.seats.Seat.{Seat};
 ghost use Rattle.qq_taker.specs.declared.taker.Verdict.{Verdict};
 ghost use Rattle.qq_taker.specs.declared.taker.Verdict.TheVariants.{Discard, Keep, Return, Settle};
-ghost use Rattle.qq_cluster.specs.Cluster.{At, Cluster, ClusterEvent, cluster_after, cluster_happens};
-ghost use Rattle.qq_cluster.specs.Queue.{Attaches, Event, Judges, Queue, happens, said};
-ghost use Rattle.qq_cluster.specs.Rules.{IsGiven, IsNextJudged, IsTold, Tells, Times};
-ghost use Rattle.qq_cluster.specs.Taking.{answers, seated, told_of, told_then, waiting_of, waiting_then};
+ghost use Rattle.qq_cluster_model.specs.Cluster.{At, Cluster, ClusterEvent, cluster_after, cluster_happens};
+ghost use Rattle.qq_cluster_model.specs.Queue.{Attaches, Event, Judges, Queue, happens, said};
+ghost use Rattle.qq_cluster_model.specs.Rules.{IsGiven, IsNextJudged, IsTold, Tells, Times};
+ghost use Rattle.qq_cluster_model.specs.Taking.{answers, seated, told_of, told_then, waiting_of, waiting_then};
 
 /// A law: what is handed out is told up to the first delivery whose consumer has a taker, and the others wait.
 ///

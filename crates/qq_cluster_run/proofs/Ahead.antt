@@ -4,10 +4,10 @@ use Rattle.std.specs.Prelude.{IfSome}
 use Rattle.std.specs.Io.KnownBytes.{Consumes, IsAtEnd, prepend_known}
 use Rattle.std.proofs.KnownBytes.{Appends-trans, Appends-nil}
 use Rattle.std.proofs.lemmas.Option.{IfSome_then}
-use Rattle.qq_setup.specs.declared.setup.Setup.{Setup}
+use Rattle.qq_route.specs.declared.setup.Setup.{Setup}
 use Rattle.qq_ports.specs.Lines.{first_line, TakesLine, BeginsTooLong, LosesSome, LosesPiece, FirstLineLeads}
 use Rattle.qq_ports.specs.Streams.{SinkState, Streams, Writes, WritesPart}
-use Rattle.qq_cluster.specs.Outcome.{Outcome}
+use Rattle.qq_cluster_model.specs.Outcome.{Outcome}
 use Rattle.qq_cluster_run.specs.Endings.{Ending}
 use Rattle.qq_cluster_run.specs.Inputs.{Input, inputs_of, EndsWith}
 use Rattle.qq_cluster_run.specs.Reading.{Ends, says}

@@ -5,13 +5,13 @@ use Rattle.std.specs.List.{AllByRecursion}
 use Rattle.std.proofs.lemmas.List.{length-map, get_or-map}
 use Rattle.std.proofs.lemmas.List.Elements.{Contains-get_or}
 use Rattle.qq_defs.specs.Runnable.{IsRunnable}
-use Rattle.qq_setup.specs.declared.queue_row.QueueRow.{QueueRow}
-use Rattle.qq_setup.specs.declared.setup.Setup.{Setup}
-use Rattle.qq_setup.specs.Setup.{state_of}
+use Rattle.qq_route.specs.declared.queue_row.QueueRow.{QueueRow}
+use Rattle.qq_route.specs.declared.setup.Setup.{Setup}
+use Rattle.qq_route.specs.Setup.{state_of}
 use Rattle.qq_script.specs.Audit.{audit_text}
-use Rattle.qq_cluster.specs.Cluster.{Cluster}
-use Rattle.qq_cluster.specs.Queue.{audit_rows}
-use Rattle.qq_cluster.specs.Texts.{audits_text}
+use Rattle.qq_cluster_model.specs.Cluster.{Cluster}
+use Rattle.qq_cluster_model.specs.Queue.{audit_rows}
+use Rattle.qq_cluster_model.specs.Texts.{audits_text}
 use Rattle.qq_cluster_run.specs.Setup.{Logs, cluster_over, name_by, place_of, row_at}
 use Rattle.qq_cluster_run.proofs.QueueRows.{each-found}
 

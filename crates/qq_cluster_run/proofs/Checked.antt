@@ -4,7 +4,7 @@ use Rattle.std.specs.Prelude.{Contains, IsTrue, nat_eq, ◌||◌}
 use Rattle.std.specs.List.{list_any, range_with_len}
 use Rattle.std.proofs.lemmas.Bool.{cases_Bool, eqb-true, false≢true}
 use Rattle.qq_base.specs.declared.ids.NodeId.{NodeId}
-use Rattle.qq_setup.specs.declared.queue_row.QueueRow.{QueueRow}
+use Rattle.qq_route.specs.declared.queue_row.QueueRow.{QueueRow}
 use Rattle.qq_cluster_run.specs.Setup.{place_of}
 use Rattle.qq_cluster_run.proofs.Said.{member-in, range-has}
 

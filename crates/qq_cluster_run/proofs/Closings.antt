@@ -5,7 +5,7 @@ use Rattle.std.proofs.lemmas.Option.{IfSome_then}
 use Rattle.qq_base.specs.Causes.{Rose}
 use Rattle.qq_base.proofs.Lists.{AllByRecursion-weaker}
 use Rattle.qq_ports.specs.Streams.{SinkFails, SinkState, SourceState, Streams, Writes}
-use Rattle.qq_setup.specs.declared.setup.Setup.{Setup}
+use Rattle.qq_route.specs.declared.setup.Setup.{Setup}
 use Rattle.qq_cluster_run.specs.declared.stop.Stop.{Stop}
 use Rattle.qq_cluster_run.specs.declared.stop.Stop.TheVariants as stops
 use Rattle.qq_cluster_run.specs.Endings.{Ending}

@@ -4,9 +4,9 @@ use Rattle.std.specs.Prelude.{is_some}
 use Rattle.std.specs.Io.KnownBytes.{Appends}
 use Rattle.qq_ports.specs.Shelf.{Gives}
 use Rattle.qq_ports.specs.Streams.{ShelfFails, ShelfState, SinkFails, SinkState, Writes, with_written}
-use Rattle.qq_setup.specs.declared.setup.Made.{Made}
-use Rattle.qq_setup.specs.declared.setup.Setup.{Setup}
-use Rattle.qq_setup.specs.Setup.{SetupState, state_of}
+use Rattle.qq_route.specs.declared.setup.Made.{Made}
+use Rattle.qq_route.specs.declared.setup.Setup.{Setup}
+use Rattle.qq_route.specs.Setup.{SetupState, state_of}
 use Rattle.qq_defs.specs.declared.fault.DefsFault.{DefsFault}
 use Rattle.qq_defs.specs.declared.fault.DefsFault.TheVariants.{Json}
 use Rattle.qq_words.specs.declared.options.Options.{Options}

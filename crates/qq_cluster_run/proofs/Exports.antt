@@ -1,7 +1,7 @@
 -- The setup of a script, by its words and by the export that they name.
 use Rattle.std.proofs.Common.{◌≡◌, ◌⊎◌, List, Option, Some, None, ℕ, ◌++◌, ◌∙◌, ap, append_assoc, inl, inr, subst}
-use Rattle.qq_setup.specs.declared.setup.Setup.{Setup}
-use Rattle.qq_setup.specs.Setup.{plain_setup, state_of}
+use Rattle.qq_route.specs.declared.setup.Setup.{Setup}
+use Rattle.qq_route.specs.Setup.{plain_setup, state_of}
 use Rattle.qq_ports.specs.Shelf.{Gives}
 use Rattle.qq_ports.specs.Streams.{ShelfState}
 use Rattle.qq_defs.specs.declared.fault.DefsFault.{DefsFault}

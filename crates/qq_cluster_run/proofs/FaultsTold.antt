@@ -7,16 +7,16 @@ use Rattle.std.proofs.lemmas.Bool.{and_from}
 use Rattle.qq_base.proofs.Lists.{AllByRecursion-in}
 use Rattle.qq_base.specs.declared.ids.NodeId.{NodeId}
 use Rattle.qq_model.proofs.Soundness.{Contains-in, in_contains}
-use Rattle.qq_setup.specs.declared.setup.Setup.{Setup}
-use Rattle.qq_setup.specs.Setup.{SetupState, plain_rows}
+use Rattle.qq_route.specs.declared.setup.Setup.{Setup}
+use Rattle.qq_route.specs.Setup.{SetupState, plain_rows}
 use Rattle.qq_log.specs.declared.op.Op.{Op}
 use Rattle.qq_log.specs.Stable.{Stable, stable}
 use Rattle.qq_raft_protocol.specs.Facts.{In}
 use Rattle.qq_script_lines.specs.declared.line.ScriptLine.{ScriptLine}
 use Rattle.qq_words.specs.declared.options.Options.{Options}
-use Rattle.qq_cluster.specs.Cluster.{Setup as ClusterSetup, ClusterEvent, members}
-use Rattle.qq_cluster.specs.Laws.{IsBegun}
-use Rattle.qq_cluster.specs.Rules.{ForEach, IsRestart}
+use Rattle.qq_cluster_model.specs.Cluster.{Setup as ClusterSetup, ClusterEvent, members}
+use Rattle.qq_cluster_model.specs.Laws.{IsBegun}
+use Rattle.qq_cluster_model.specs.Rules.{ForEach, IsRestart}
 use Rattle.qq_cluster_run.specs.Endings.{Ending, lost}
 use Rattle.qq_cluster_run.specs.Inputs.{Input, inputs_of}
 use Rattle.qq_cluster_run.specs.Reading.{Asks, says}

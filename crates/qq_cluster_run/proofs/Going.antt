@@ -3,11 +3,11 @@ use Rattle.std.proofs.Common.{◌≡◌, ℕ, ◌+◌, suc, List, [], ◌∷◌,
 use Rattle.std.specs.List.{flat_map}
 use Rattle.std.proofs.lemmas.List.{length-append}
 use Rattle.std.proofs.lemmas.Grind.{flat_map-append}
-use Rattle.qq_setup.specs.declared.setup.Setup.{Setup}
+use Rattle.qq_route.specs.declared.setup.Setup.{Setup}
 use Rattle.qq_script_lines.specs.declared.line.ScriptLine.{ScriptLine}
-use Rattle.qq_cluster.specs.Cluster.{Setup as ClusterSetup, Cluster, ClusterEvent, Printed, new_cluster, cluster_happens, cluster_after, prints, all_prints}
-use Rattle.qq_cluster.specs.Lines.{IsLine, IsScript}
-use Rattle.qq_cluster.specs.Texts.{printed_text, text_of}
+use Rattle.qq_cluster_model.specs.Cluster.{Setup as ClusterSetup, Cluster, ClusterEvent, Printed, new_cluster, cluster_happens, cluster_after, prints, all_prints}
+use Rattle.qq_cluster_model.specs.Lines.{IsLine, IsScript}
+use Rattle.qq_cluster_model.specs.Texts.{printed_text, text_of}
 use Rattle.qq_cluster_run.specs.Inputs.{Input}
 use Rattle.qq_cluster_run.specs.Reading.{Asks, says, AskFor}
 use Rattle.qq_cluster_run.specs.Serving.{Histories, Run, Serves, Behind, run_behind, text_behind, after_all}

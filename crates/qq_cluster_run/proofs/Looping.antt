@@ -3,11 +3,11 @@ use Rattle.std.proofs.Common.{◌≡◌, ℕ, ◌+◌, List, [], ◌++◌, Optio
 use Rattle.std.specs.Prelude.{IfSome}
 use Rattle.std.specs.Io.KnownBytes.{IsAtEnd, prepend_known}
 use Rattle.std.proofs.lemmas.Option.{IfSome_then}
-use Rattle.qq_setup.specs.declared.setup.Setup.{Setup}
+use Rattle.qq_route.specs.declared.setup.Setup.{Setup}
 use Rattle.qq_ports.specs.Lines.{first_line, ahead, TakesLine, FirstLineLeads}
 use Rattle.qq_ports.specs.Streams.{SinkState, Streams, Writes}
-use Rattle.qq_cluster.specs.Outcome.{Outcome}
-use Rattle.qq_cluster.specs.Texts.{audits_text}
+use Rattle.qq_cluster_model.specs.Outcome.{Outcome}
+use Rattle.qq_cluster_model.specs.Texts.{audits_text}
 use Rattle.qq_cluster_run.specs.declared.status.TheConstants.{DONE}
 use Rattle.qq_cluster_run.specs.Answers.{Answers, IsServedToEnd}
 use Rattle.qq_cluster_run.specs.Pieces.{HasSomePrefix}

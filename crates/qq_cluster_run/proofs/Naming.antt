@@ -1,7 +1,7 @@
 -- The setups of runs have names and numbers, so what their lines ask for names queues, nodes and sessions.
 use Rattle.std.proofs.Common.{◌≡◌, ◌+◌, ℕ, Bool, true, false, List, Some, Result, Ok, Err, inl, inr, sym, ap, ◌∙◌}
 use Rattle.std.proofs.lemmas.Bool.{cases_lt, false≢true}
-use Rattle.qq_setup.specs.declared.setup.Setup.{Setup}
+use Rattle.qq_route.specs.declared.setup.Setup.{Setup}
 use Rattle.qq_script_lines.specs.declared.fault.ScriptFault.{ScriptFault}
 use Rattle.qq_script_lines.specs.declared.fault.ScriptFault.TheVariants.{Body, NoSuch, Number, Words, TooLong, Unknown, Session, Memory}
 use Rattle.qq_script_lines.specs.declared.line.ScriptLine.{ScriptLine}

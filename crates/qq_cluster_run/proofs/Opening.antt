@@ -5,16 +5,16 @@ use Rattle.std.specs.Prelude.{◌<◌}
 use Rattle.std.proofs.lemmas.Bool.{false≢true}
 use Rattle.std.proofs.lemmas.Grind.{flat_map-append}
 use Rattle.qq_defs.specs.Runnable.{IsRunnable}
-use Rattle.qq_setup.specs.declared.setup.Setup.{Setup}
+use Rattle.qq_route.specs.declared.setup.Setup.{Setup}
 use Rattle.qq_script_lines.specs.declared.line.ScriptLine.{ScriptLine}
-use Rattle.qq_cluster.specs.Cluster.{Setup as ClusterSetup, ClusterEvent, Fails, FindsEach, new_cluster}
-use Rattle.qq_cluster.specs.ClusterLaws.{IsServedBy, finding, findings, has_failure}
-use Rattle.qq_cluster.specs.Rules.{ForEach, IsOpening, IsRestart}
+use Rattle.qq_cluster_model.specs.Cluster.{Setup as ClusterSetup, ClusterEvent, Fails, FindsEach, new_cluster}
+use Rattle.qq_cluster_model.specs.ClusterLaws.{IsServedBy, finding, findings, has_failure}
+use Rattle.qq_cluster_model.specs.Rules.{ForEach, IsOpening, IsRestart}
 use Rattle.qq_cluster_run.specs.Inputs.{Input}
 use Rattle.qq_cluster_run.specs.Reading.{AskFor}
 use Rattle.qq_cluster_run.specs.Serving.{AnyDisks, Behind, HasRecovered}
 use Rattle.qq_cluster_run.specs.Setup.{CanBegin, Logs, cluster_over}
-use Rattle.qq_setup.specs.Setup.{state_of}
+use Rattle.qq_route.specs.Setup.{state_of}
 
 -- no front of events without a failure has one
 front-fine : (early late : List ClusterEvent) → has_failure (early ++ late) ≡ false → has_failure early ≡ false

@@ -11,9 +11,9 @@ use Rattle.qq_entry.specs.Queue.{default_args}
 use Rattle.qq_raft_protocol.specs.Facts.{In}
 use Rattle.qq_raft_model.specs.Group.{new_group}
 use Rattle.qq_raft_model.specs.Promises.{AreDistinct}
-use Rattle.qq_setup.specs.declared.queue_row.QueueRow.{QueueRow}
-use Rattle.qq_setup.specs.Members.{member, members}
-use Rattle.qq_setup.specs.Setup.{plain_row, plain_rows}
+use Rattle.qq_route.specs.declared.queue_row.QueueRow.{QueueRow}
+use Rattle.qq_route.specs.Members.{member, members}
+use Rattle.qq_route.specs.Setup.{plain_row, plain_rows}
 use Rattle.qq_cluster_run.specs.Setup.{args_by, first_place, group_over, members_by, name_by, new_logs, place_of, row_at}
 
 -- ---- places

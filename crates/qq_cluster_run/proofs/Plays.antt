@@ -5,7 +5,7 @@ use Rattle.std.proofs.lemmas.List.{drop_more, length-append}
 use Rattle.std.proofs.lemmas.List.Elements.{filter_map-append}
 use Rattle.sha2.specs.Hashers.{Holds256}
 use Rattle.qq_base.specs.declared.ids.ConsumerId.{ConsumerId}
-use Rattle.qq_cluster.specs.Outcome.{deliveries_among, delivery_in}
+use Rattle.qq_cluster_model.specs.Outcome.{deliveries_among, delivery_in}
 use Rattle.qq_taker.specs.declared.handed.Handed.{Handed}
 use Rattle.qq_taker.specs.declared.heard.Heard.{Heard}
 use Rattle.qq_drill.specs.Drill.{Drill, after_by, draw_next, hear, is_side_of}

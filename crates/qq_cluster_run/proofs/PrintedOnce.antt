@@ -20,13 +20,14 @@ use Rattle.qq_model.specs.Audit.{effects_of}
 use Rattle.qq_model.specs.State.{empty_queue}
 use Rattle.qq_model.proofs.SessionLemmas.{same_session-true, same_session-refl}
 use Rattle.qq_model.proofs.Soundness.{in_contains}
-use Rattle.qq_setup.specs.declared.setup.Setup.{Setup}
+use Rattle.qq_route.specs.declared.setup.Setup.{Setup}
 use Rattle.qq_session.specs.ExactlyOne.{ExactlyOne}
 use Rattle.qq_session.specs.Printed.{IsConfirmedPublish}
-use Rattle.qq_cluster.specs.Cluster.{Setup as ClusterSetup, ClusterEvent, Of}
-use Rattle.qq_cluster.specs.ClusterLaws.{HasGroups, IsTrueOf, PrintsWhatIsTrue}
+use Rattle.qq_cluster_model.specs.Cluster.{Setup as ClusterSetup, ClusterEvent, Of}
+use Rattle.qq_cluster_model.specs.ClusterLaws.{HasGroups, IsTrueOf, PrintsWhatIsTrue}
 use Rattle.qq_session.specs.Clients.{sender, ended_by}
-use Rattle.qq_session.specs.Shown.{Shown, Answered, Delivered}
+use Rattle.qq_session.specs.declared.shown.Shown.{Shown}
+use Rattle.qq_session.specs.declared.shown.Shown.TheVariants.{Answered, Delivered}
 use Rattle.qq_cluster_run.specs.Inputs.{Input}
 use Rattle.qq_cluster_run.specs.Printing.{printed_behind, audit_behind, queue_behind, is_publish_of, is_confirmed_publish}
 use Rattle.qq_cluster_run.specs.Serving.{AnyDisks, Behind, setup_behind, cluster_behind}

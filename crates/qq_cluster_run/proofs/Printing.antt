@@ -6,12 +6,12 @@ use Rattle.std.proofs.lemmas.Bool.{cases_lt}
 use Rattle.qq_script_lines.specs.declared.fault.ScriptFault.{ScriptFault}
 use Rattle.qq_script_lines.specs.declared.fault.ScriptFault.TheVariants as faults
 use Rattle.qq_log.specs.Stable.{Stable}
-use Rattle.qq_setup.specs.declared.setup.Setup.{Setup}
+use Rattle.qq_route.specs.declared.setup.Setup.{Setup}
 use Rattle.qq_words.specs.declared.options.Options.{Options}
 use Rattle.qq_script_lines.specs.declared.line.ScriptLine.{ScriptLine}
-use Rattle.qq_cluster.specs.Cluster.{Setup as ClusterSetup, ClusterEvent, new_cluster}
-use Rattle.qq_cluster.specs.ClusterLaws.{LeavesNoChoice, has_failure, findings, verdicts}
-use Rattle.qq_cluster.specs.Lines.{IsRun}
+use Rattle.qq_cluster_model.specs.Cluster.{Setup as ClusterSetup, ClusterEvent, new_cluster}
+use Rattle.qq_cluster_model.specs.ClusterLaws.{LeavesNoChoice, has_failure, findings, verdicts}
+use Rattle.qq_cluster_model.specs.Lines.{IsRun}
 use Rattle.qq_cluster_run.specs.declared.ending.TheConstants.{LINES_LIMIT}
 use Rattle.qq_cluster_run.specs.Endings.{limit_lines}
 use Rattle.qq_cluster_run.specs.Inputs.{Input, inputs_of}

@@ -10,10 +10,10 @@ use Rattle.qq_base.proofs.Lists.{AllByRecursion-weaker}
 use Rattle.qq_defs.specs.Runnable.{AreQueuesAfter, IsQueueAfter, IsRunnable}
 use Rattle.qq_raft_model.specs.Group.{new_group}
 use Rattle.qq_raft_model.specs.Promises.{AreDistinct, IsOpened}
-use Rattle.qq_setup.specs.declared.queue_row.QueueRow.{QueueRow}
-use Rattle.qq_setup.specs.declared.setup.Setup.{Setup}
-use Rattle.qq_setup.specs.Setup.{state_of}
-use Rattle.qq_cluster.specs.Laws.{IsBegun}
+use Rattle.qq_route.specs.declared.queue_row.QueueRow.{QueueRow}
+use Rattle.qq_route.specs.declared.setup.Setup.{Setup}
+use Rattle.qq_route.specs.Setup.{state_of}
+use Rattle.qq_cluster_model.specs.Laws.{IsBegun}
 use Rattle.qq_cluster_run.specs.Named.{AreRows, HasFirstKey}
 use Rattle.qq_cluster_run.specs.Setup.{cluster_of, first_place, members_by, new_logs, place_of, row_at}
 use Rattle.qq_cluster_run.proofs.PlainRows.{members-distinct}

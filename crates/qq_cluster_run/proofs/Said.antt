@@ -15,8 +15,8 @@ use Rattle.qq_base.specs.declared.ids.QueueId.{QueueId}
 use Rattle.qq_base.specs.declared.ids.SessionId.{SessionId}
 use Rattle.qq_entry.specs.declared.limits.TheConstants.{BODY_LIMIT, KEY_LIMIT, IDS_LIMIT}
 use Rattle.qq_entry.specs.Range.{IsPositive, AreIds}
-use Rattle.qq_setup.specs.declared.queue_row.QueueRow.{QueueRow}
-use Rattle.qq_setup.specs.declared.setup.Setup.{Setup}
+use Rattle.qq_route.specs.declared.queue_row.QueueRow.{QueueRow}
+use Rattle.qq_route.specs.declared.setup.Setup.{Setup}
 use Rattle.qq_script_lines.specs.declared.fault.ScriptFault.{ScriptFault}
 use Rattle.qq_script_lines.specs.declared.fault.ScriptFault.TheVariants.{NoSuch, Number, Words, TooLong, Session, Body}
 use Rattle.qq_script_lines.specs.declared.line.TheConstants.{LINE_LIMIT}

@@ -8,12 +8,12 @@ use Rattle.qq_model.specs.Audit.{audit_of}
 use Rattle.qq_model.specs.State.{empty_queue}
 use Rattle.qq_raft_model.specs.Group.{Group}
 use Rattle.qq_session.specs.Answered.{IsAnswered}
-use Rattle.qq_setup.specs.declared.setup.Setup.{Setup}
-use Rattle.qq_cluster.specs.Cluster.{Setup as ClusterSetup, ClusterEvent, part_of, parts_of}
-use Rattle.qq_cluster.specs.ClusterLaws.{HasItsQueues}
-use Rattle.qq_cluster.specs.Laws.{CountsRise, IsBegun, KeepsAudit, queue_after}
-use Rattle.qq_cluster.specs.Queue.{Queue, Event, after, audit_rows, begin, happens}
-use Rattle.qq_cluster.proofs.Groups.{after-append}
+use Rattle.qq_route.specs.declared.setup.Setup.{Setup}
+use Rattle.qq_cluster_model.specs.Cluster.{Setup as ClusterSetup, ClusterEvent, part_of, parts_of}
+use Rattle.qq_cluster_model.specs.ClusterLaws.{HasItsQueues}
+use Rattle.qq_cluster_model.specs.Laws.{CountsRise, IsBegun, KeepsAudit, queue_after}
+use Rattle.qq_cluster_model.specs.Queue.{Queue, Event, after, audit_rows, begin, happens}
+use Rattle.qq_cluster_model.proofs.Groups.{after-append}
 use Rattle.qq_cluster_run.specs.Inputs.{Input}
 use Rattle.qq_cluster_run.specs.Printing.{audit_behind, queue_behind}
 use Rattle.qq_cluster_run.specs.Serving.{AnyDisks, Behind, after_all, setup_behind}

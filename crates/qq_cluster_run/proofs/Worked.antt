@@ -14,9 +14,9 @@ use Rattle.qq_raft_model.specs.Leading.{send, add_entry, stand, lead, lead_if_el
 use Rattle.qq_raft_model.specs.Server.{refuse, give_vote, receive_vote, receive_voted, take_entries, refuse_entries, receive_append, take_ack, step_back, receive_appended, accept, receive, tick, submit, notice}
 use Rattle.qq_raft_model.specs.State.{change, enter, say_all}
 use Rattle.qq_ports.specs.Lines.{HasNoFeed, lines_of, onto_first}
-use Rattle.qq_setup.specs.declared.queue_row.QueueRow.{QueueRow}
-use Rattle.qq_setup.specs.declared.setup.Setup.{Setup}
-use Rattle.qq_setup.specs.Setup.{SetupState, plain_rows, plain_setup, state_of}
+use Rattle.qq_route.specs.declared.queue_row.QueueRow.{QueueRow}
+use Rattle.qq_route.specs.declared.setup.Setup.{Setup}
+use Rattle.qq_route.specs.Setup.{SetupState, plain_rows, plain_setup, state_of}
 use Rattle.qq_defs.specs.Runnable.{IsRunnable}
 use Rattle.qq_words.specs.declared.options.Options.{Options}
 use Rattle.qq_script_lines.specs.declared.fault.ScriptFault.{ScriptFault}
@@ -24,12 +24,12 @@ use Rattle.qq_script_lines.specs.declared.fault.ScriptFault.TheVariants.{Words, 
 use Rattle.qq_script_lines.specs.declared.line.ScriptLine.{ScriptLine}
 use Rattle.qq_script_lines.specs.declared.line.ScriptLine.TheVariants.{Attach, Publish}
 use Rattle.qq_script_lines.specs.Lines.{read}
-use Rattle.qq_cluster.specs.Cluster.{Setup as ClusterSetup, ClusterEvent, new_cluster, cluster_after}
-use Rattle.qq_cluster.specs.ClusterLaws.{HasGroups, IsServedBy, has_failure, findings, verdicts}
-use Rattle.qq_cluster.specs.Lines.{IsRun}
-use Rattle.qq_cluster.specs.Rules.{most_rounds}
-use Rattle.qq_cluster.specs.Serving.{all_given, line, run}
-use Rattle.qq_cluster.specs.Texts.{text_of, audits_text}
+use Rattle.qq_cluster_model.specs.Cluster.{Setup as ClusterSetup, ClusterEvent, new_cluster, cluster_after}
+use Rattle.qq_cluster_model.specs.ClusterLaws.{HasGroups, IsServedBy, has_failure, findings, verdicts}
+use Rattle.qq_cluster_model.specs.Lines.{IsRun}
+use Rattle.qq_cluster_model.specs.Rules.{most_rounds}
+use Rattle.qq_cluster_model.specs.Serving.{all_given, line, run}
+use Rattle.qq_cluster_model.specs.Texts.{text_of, audits_text}
 use Rattle.qq_cluster_run.specs.Endings.{fault_text, refusal}
 use Rattle.qq_cluster_run.specs.Inputs.{Input, raw_lines_of, input_of, inputs_by, inputs_of, feed_count}
 use Rattle.qq_cluster_run.specs.Reading.{Asks, Ends, read_line, read_input, says_by, says, AskFor}

@@ -3,9 +3,9 @@ use Rattle.std.specs.Prelude.{◌≡◌, ◌⊎◌, ℕ, List, [], ◌++◌, Opt
 use Rattle.std.specs.Fmt.{decimal}
 use Rattle.qq_ports.specs.Shelf.{Gives}
 use Rattle.qq_ports.specs.Streams.{ShelfFails, ShelfState, SinkFails, SinkState, WritesPart}
-use Rattle.qq_setup.specs.declared.setup.Made.{Made}
-use Rattle.qq_setup.specs.declared.setup.Setup.{Setup}
-use Rattle.qq_setup.specs.Setup.{SetupState, state_of, plain_setup}
+use Rattle.qq_route.specs.declared.setup.Made.{Made}
+use Rattle.qq_route.specs.declared.setup.Setup.{Setup}
+use Rattle.qq_route.specs.Setup.{SetupState, state_of, plain_setup}
 use Rattle.qq_defs.specs.declared.fault.DefsFault.{DefsFault}
 use Rattle.qq_defs.specs.declared.fault.DefsFault.TheVariants.{Json, NotObject, Missing, BadArgument, Unsupported, Policies, UnknownTarget, Limit, Memory}
 use Rattle.qq_defs.specs.Definitions.{document, read_setup}

@@ -8,17 +8,17 @@ use Rattle.qq_base.specs.declared.ids.QueueId.{QueueId}
 use Rattle.qq_entry.specs.declared.audit.AuditRow.{AuditRow}
 use Rattle.qq_script_lines.specs.declared.line.ScriptLine.{ScriptLine}
 use Rattle.qq_script_lines.specs.declared.line.ScriptLine.TheVariants.{Pump, Tick}
-use Rattle.qq_setup.specs.Members.{members}
-use Rattle.qq_setup.specs.Setup.{SetupState, plain_setup}
+use Rattle.qq_route.specs.Members.{members}
+use Rattle.qq_route.specs.Setup.{SetupState, plain_setup}
 use Rattle.qq_taker.specs.declared.handed.Handed.{Handed}
 use Rattle.qq_words.specs.declared.options.TheConstants.{LOG_BYTES}
 use Rattle.qq_drill.specs.Drill.{Drill, after_step, hear, is_sixteenth, last_restart, new_drill, resends, step_lines}
-use Rattle.qq_cluster.specs.Cluster.{Setup as ClusterSetup, Cluster, ClusterEvent, all_prints, cluster_after}
-use Rattle.qq_cluster.specs.Confirmed.{is_confirmed_row}
-use Rattle.qq_cluster.specs.Lines.{IsScript}
-use Rattle.qq_cluster.specs.Outcome.{all_heard, deliveries_among}
-use Rattle.qq_cluster.specs.Queue.{audit_rows, has_leader}
-use Rattle.qq_cluster.specs.Texts.{audits_text, text_of}
+use Rattle.qq_cluster_model.specs.Cluster.{Setup as ClusterSetup, Cluster, ClusterEvent, all_prints, cluster_after}
+use Rattle.qq_cluster_model.specs.Confirmed.{is_confirmed_row}
+use Rattle.qq_cluster_model.specs.Lines.{IsScript}
+use Rattle.qq_cluster_model.specs.Outcome.{all_heard, deliveries_among}
+use Rattle.qq_cluster_model.specs.Queue.{audit_rows, has_leader}
+use Rattle.qq_cluster_model.specs.Texts.{audits_text, text_of}
 use Rattle.qq_cluster_run.specs.Definitions.{counted}
 use Rattle.qq_cluster_run.specs.declared.drilling.Part.{Part}
 use Rattle.qq_cluster_run.specs.declared.drilling.Part.TheVariants.{Step, Restart, Elect, Resend}

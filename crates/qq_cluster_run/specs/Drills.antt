@@ -1,12 +1,12 @@
 -- How a drill ends, and what it has written by then.
 use Rattle.std.specs.Prelude.{◌≡◌, ◌⊎◌, ℕ, List, [], ◌∷◌, ◌++◌}
-use Rattle.qq_setup.specs.declared.setup.Setup.{Setup}
-use Rattle.qq_setup.specs.Setup.{state_of}
+use Rattle.qq_route.specs.declared.setup.Setup.{Setup}
+use Rattle.qq_route.specs.Setup.{state_of}
 use Rattle.qq_ports.specs.Streams.{IsUnread, SinkFails, SinkState, Streams, Writes, WritesPart}
 use Rattle.qq_script_lines.specs.declared.line.ScriptLine.{ScriptLine}
-use Rattle.qq_cluster.specs.Cluster.{Setup as ClusterSetup, Cluster, ClusterEvent, new_cluster}
-use Rattle.qq_cluster.specs.Lines.{IsScript}
-use Rattle.qq_cluster.specs.Rules.{IsOpening}
+use Rattle.qq_cluster_model.specs.Cluster.{Setup as ClusterSetup, Cluster, ClusterEvent, new_cluster}
+use Rattle.qq_cluster_model.specs.Lines.{IsScript}
+use Rattle.qq_cluster_model.specs.Rules.{IsOpening}
 use Rattle.qq_cluster_run.specs.declared.drilling.Part.{Part}
 use Rattle.qq_cluster_run.specs.declared.status.TheConstants.{DONE, WRITE_FAULT}
 use Rattle.qq_cluster_run.specs.Drilling.{AreParts, Known, drill_setup, drill_text, first_known, is_led, know, part_lines, parts}

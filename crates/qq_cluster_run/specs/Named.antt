@@ -9,12 +9,12 @@ use Rattle.qq_entry.specs.declared.command.Unstamped.{Unstamped}
 use Rattle.qq_entry.specs.declared.command.Unstamped.TheVariants as bodies
 use Rattle.qq_entry.specs.declared.limits.TheConstants.{BODY_LIMIT, KEY_LIMIT}
 use Rattle.qq_entry.specs.Range.{IsContent, IsWhole, IsPositive, IsMode, AreIds}
-use Rattle.qq_setup.specs.declared.queue_row.QueueRow.{QueueRow}
+use Rattle.qq_route.specs.declared.queue_row.QueueRow.{QueueRow}
 use Rattle.qq_script_lines.specs.declared.line.Nodes.{Nodes}
 use Rattle.qq_script_lines.specs.declared.line.Nodes.TheVariants.{One, All}
 use Rattle.qq_script_lines.specs.declared.line.ScriptLine.{ScriptLine}
 use Rattle.qq_script_lines.specs.declared.line.ScriptLine.TheVariants as lines
-use Rattle.qq_cluster.specs.Cluster.{Setup, members}
+use Rattle.qq_cluster_model.specs.Cluster.{Setup, members}
 use Rattle.qq_cluster_run.specs.Setup.{place_of, row_at}
 
 -- a command in range: a message with its content, tags and ids from 1, and no number too great

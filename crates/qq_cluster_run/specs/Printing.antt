@@ -6,12 +6,12 @@ use Rattle.qq_entry.specs.declared.audit.AuditRow.{AuditRow}
 use Rattle.qq_entry.specs.declared.command.Command.{Command}
 use Rattle.qq_entry.specs.declared.command.Command.TheVariants.{Enqueue}
 use Rattle.qq_laws.specs.Published.{is_confirmed}
-use Rattle.qq_setup.specs.declared.setup.Setup.{Setup}
+use Rattle.qq_route.specs.declared.setup.Setup.{Setup}
 use Rattle.qq_script_lines.specs.declared.line.ScriptLine.{ScriptLine}
 use Rattle.qq_words.specs.declared.options.Options.{Options}
-use Rattle.qq_cluster.specs.Cluster.{Printed, new_cluster, all_prints}
-use Rattle.qq_cluster.specs.ClusterLaws.{has_failure, findings, verdicts}
-use Rattle.qq_cluster.specs.Queue.{Queue, audit_rows}
+use Rattle.qq_cluster_model.specs.Cluster.{Printed, new_cluster, all_prints}
+use Rattle.qq_cluster_model.specs.ClusterLaws.{has_failure, findings, verdicts}
+use Rattle.qq_cluster_model.specs.Queue.{Queue, audit_rows}
 use Rattle.qq_cluster_run.specs.Inputs.{Input, inputs_of}
 use Rattle.qq_cluster_run.specs.Reading.{AskFor}
 use Rattle.qq_cluster_run.specs.Serving.{Histories, Behind, setup_behind, cluster_behind}

@@ -1,6 +1,6 @@
 -- What the lines of an input ask for.
 use Rattle.std.specs.Prelude.{◌≡◌, ℕ, ◌+◌, List, [], ◌∷◌, false, Some, None, Result, Ok, Err, nat_lt, if◌then◌else◌}
-use Rattle.qq_setup.specs.declared.setup.Setup.{Setup}
+use Rattle.qq_route.specs.declared.setup.Setup.{Setup}
 use Rattle.qq_script_lines.specs.declared.fault.ScriptFault.{ScriptFault}
 use Rattle.qq_script_lines.specs.declared.fault.ScriptFault.TheVariants.{TooLong, Body}
 use Rattle.qq_script_lines.specs.declared.line.Place.{Place}

@@ -2,10 +2,10 @@
 use Rattle.std.specs.Prelude.{◌≡◌, ◌⊎◌, ℕ, List, [], ◌++◌, Option, Some, None, true, IfSome, is_some, take}
 use Rattle.std.specs.List.{AllByRecursion}
 use Rattle.std.specs.Io.KnownBytes.{Appends, IsAtEnd}
-use Rattle.qq_setup.specs.declared.setup.Setup.{Setup}
+use Rattle.qq_route.specs.declared.setup.Setup.{Setup}
 use Rattle.qq_words.specs.declared.options.Options.{Options}
-use Rattle.qq_cluster.specs.Cluster.{Setup as ClusterSetup}
-use Rattle.qq_cluster.specs.Rules.{IsOpening}
+use Rattle.qq_cluster_model.specs.Cluster.{Setup as ClusterSetup}
+use Rattle.qq_cluster_model.specs.Rules.{IsOpening}
 use Rattle.qq_ports.specs.Lines.{HasNoFeed}
 use Rattle.qq_ports.specs.Streams.{IsUnread, ShelfState, SinkFails, SinkState, SourceFails, Streams, Writes, WritesPart, with_written}
 use Rattle.qq_cluster_run.specs.declared.status.TheConstants.{DONE, LIMIT, REFUSED, WRITE_FAULT}

@@ -1,12 +1,12 @@
 -- What a cluster does that serves the lines of a script.
 use Rattle.std.specs.Prelude.{◌≡◌, ℕ, List, ◌++◌}
-use Rattle.qq_setup.specs.declared.setup.Setup.{Setup}
+use Rattle.qq_route.specs.declared.setup.Setup.{Setup}
 use Rattle.qq_script_lines.specs.declared.line.ScriptLine.{ScriptLine}
-use Rattle.qq_cluster.specs.Cluster.{Setup as ClusterSetup, ClusterEvent, new_cluster}
-use Rattle.qq_cluster.specs.Lines.{IsLine}
-use Rattle.qq_cluster.specs.Outcome.{Outcome, takers_after}
-use Rattle.qq_cluster.specs.Rules.{IsOpening}
-use Rattle.qq_cluster.specs.Texts.{text_of}
+use Rattle.qq_cluster_model.specs.Cluster.{Setup as ClusterSetup, ClusterEvent, new_cluster}
+use Rattle.qq_cluster_model.specs.Lines.{IsLine}
+use Rattle.qq_cluster_model.specs.Outcome.{Outcome, takers_after}
+use Rattle.qq_cluster_model.specs.Rules.{IsOpening}
+use Rattle.qq_cluster_model.specs.Texts.{text_of}
 use Rattle.qq_cluster_run.specs.declared.stop.AskStop.{AskStop}
 use Rattle.qq_cluster_run.specs.declared.stop.AskStop.TheVariants.{Ended, NoMemory}
 use Rattle.qq_cluster_run.specs.Serving.{Histories, HasRecovered, MayStop, Run, after_all, all_seen, all_text}

@@ -7,19 +7,19 @@ use Rattle.qq_log.specs.Stable.{Stable, new_state, stable}
 use Rattle.qq_ports.specs.Streams.{SinkState, Writes}
 use Rattle.qq_raft_msg.specs.declared.bag.TheConstants.{BAG_LIMIT}
 use Rattle.qq_raft_model.specs.Group.{may_restart}
-use Rattle.qq_setup.specs.declared.setup.Setup.{Setup}
+use Rattle.qq_route.specs.declared.setup.Setup.{Setup}
 use Rattle.qq_script_lines.specs.declared.fault.ScriptFault.TheVariants.{NoSuch}
 use Rattle.qq_script_lines.specs.declared.line.ScriptLine.{ScriptLine}
 use Rattle.qq_script_lines.specs.declared.line.ScriptLine.TheVariants.{Attach, Crash, Restart}
 use Rattle.qq_taker.specs.Takers.{Takers}
-use Rattle.qq_cluster.specs.Cluster.{Setup as ClusterSetup, Cluster, ClusterEvent, new_cluster, cluster_after, members}
-use Rattle.qq_cluster.specs.ClusterLaws.{findings}
-use Rattle.qq_cluster.specs.Laws.{IsBegun}
-use Rattle.qq_cluster.specs.Lines.{IsLine, IsRun, nodes_of}
-use Rattle.qq_cluster.specs.Outcome.{takers_after}
-use Rattle.qq_cluster.specs.Queue.{Queue}
-use Rattle.qq_cluster.specs.Rules.{ForEach, IsRestart}
-use Rattle.qq_cluster.specs.Texts.{text_of, audits_text}
+use Rattle.qq_cluster_model.specs.Cluster.{Setup as ClusterSetup, Cluster, ClusterEvent, new_cluster, cluster_after, members}
+use Rattle.qq_cluster_model.specs.ClusterLaws.{findings}
+use Rattle.qq_cluster_model.specs.Laws.{IsBegun}
+use Rattle.qq_cluster_model.specs.Lines.{IsLine, IsRun, nodes_of}
+use Rattle.qq_cluster_model.specs.Outcome.{takers_after}
+use Rattle.qq_cluster_model.specs.Queue.{Queue}
+use Rattle.qq_cluster_model.specs.Rules.{ForEach, IsRestart}
+use Rattle.qq_cluster_model.specs.Texts.{text_of, audits_text}
 use Rattle.qq_cluster_run.specs.Endings.{Ending, yard_fault, lost, refusal, spent}
 use Rattle.qq_cluster_run.specs.Inputs.{Input, inputs_of, EndsWith}
 use Rattle.qq_cluster_run.specs.Reading.{Asks, Ends, says, AskFor}

@@ -9,11 +9,11 @@ use Rattle.qq_log.specs.declared.op.Op.{Op}
 use Rattle.qq_log.specs.declared.op.Op.TheVariants.{Change}
 use Rattle.qq_raft_model.specs.Group.{Group, Seat}
 use Rattle.qq_route.specs.Routes.{Table, targets}
-use Rattle.qq_setup.specs.declared.queue_row.QueueRow.{QueueRow}
-use Rattle.qq_setup.specs.declared.setup.Setup.{Setup}
-use Rattle.qq_setup.specs.Setup.{SetupState, state_of}
-use Rattle.qq_cluster.specs.Cluster.{Setup as ClusterSetup}
-use Rattle.qq_cluster.specs.ClusterLaws.{HasGroups}
+use Rattle.qq_route.specs.declared.queue_row.QueueRow.{QueueRow}
+use Rattle.qq_route.specs.declared.setup.Setup.{Setup}
+use Rattle.qq_route.specs.Setup.{SetupState, state_of}
+use Rattle.qq_cluster_model.specs.Cluster.{Setup as ClusterSetup}
+use Rattle.qq_cluster_model.specs.ClusterLaws.{HasGroups}
 
 -- ---- queues
 

@@ -5,7 +5,7 @@ use Rattle.qq_base.specs.Causes.{Rose}
 use Rattle.qq_base.specs.declared.ids.QueueId.{QueueId}
 use Rattle.qq_base.specs.declared.ids.SessionId.{SessionId}
 use Rattle.qq_disk.specs.declared.image.Image.{Image}
-use Rattle.qq_setup.specs.declared.setup.Setup.{Setup}
+use Rattle.qq_route.specs.declared.setup.Setup.{Setup}
 use Rattle.qq_script_lines.specs.declared.fault.ScriptFault.{ScriptFault}
 use Rattle.qq_script_lines.specs.declared.fault.ScriptFault.TheVariants.{Body, NoSuch}
 use Rattle.qq_script_lines.specs.declared.line.Nodes.{Nodes}
@@ -14,9 +14,9 @@ use Rattle.qq_script_lines.specs.declared.line.ScriptLine.TheVariants.{Attach, C
 use Rattle.qq_words.specs.declared.options.Options.{Options}
 use Rattle.qq_ports.specs.Lines.{HasNoFeed}
 use Rattle.qq_ports.specs.Streams.{ShelfState, Streams}
-use Rattle.qq_cluster.specs.Cluster.{Setup as ClusterSetup, ClusterEvent}
-use Rattle.qq_cluster.specs.Lines.{IsLine, nodes_of}
-use Rattle.qq_cluster.specs.Rules.{IsOpening}
+use Rattle.qq_cluster_model.specs.Cluster.{Setup as ClusterSetup, ClusterEvent}
+use Rattle.qq_cluster_model.specs.Lines.{IsLine, nodes_of}
+use Rattle.qq_cluster_model.specs.Rules.{IsOpening}
 use Rattle.qq_cluster_run.specs.declared.stop.Stop.{Stop}
 use Rattle.qq_cluster_run.specs.Endings.{Ending, fault_text, no_memory}
 use Rattle.qq_cluster_run.specs.Inputs.{Input, feed_count}

@@ -2,7 +2,7 @@
 -- takers.
 use Rattle.std.specs.Prelude.{ℕ, List}
 use Rattle.qq_log.specs.Stable.{Stable}
-use Rattle.qq_cluster.specs.Cluster.{Setup as ClusterSetup, ClusterEvent}
+use Rattle.qq_cluster_model.specs.Cluster.{Setup as ClusterSetup, ClusterEvent}
 use Rattle.qq_cluster_run.specs.Endings.{Ending, damaged, other_version}
 
 -- where the files of a log break its rules: at a place of a file, or in a file of another version

@@ -1,13 +1,13 @@
 ghost use Rattle.std.specs.Prelude.{◌≡◌, ◌<◌, Ok, Some, None, IfOk, IfErr};
-ghost use Rattle.qq_setup.specs.declared.setup.Setup.{Setup};
+ghost use Rattle.qq_route.specs.declared.setup.Setup.{Setup};
 ghost use Rattle.qq_script_lines.specs.Lines.{HasScriptCause};
 ghost use Rattle.qq_cluster_run.specs.Reading.{Asks, Ends, at_line, read_line, says};
 ghost use Rattle.qq_cluster_run.specs.Asking.{stop_by, HasAskCause};
 
 use crate::ending::{Ending, LINES_LIMIT};
 use crate::stop::AskStop;
+use qq_route::Setup;
 use qq_script_lines::{Place, ScriptFault, ScriptLine, parse_line};
-use qq_setup::Setup;
 use std::alloc::Global;
 
 // Why the line of a number isn't served.
@@ -53,9 +53,9 @@ pub fn read_line(
     parse_line(alloc, line, setup, at_line(number))
 }
 
-/// What a line asks for that has so many before it.
+/// The request of a line, with the number of lines before it.
 ///
-/// - `ok`: it is what the line says, and the script may have so many lines.
+/// - `ok`: it is what the line says, and the line is within the limit on a script's lines.
 /// - `cause`: `Ended` comes only where the script ends at this line, and so; `NoMemory` at any time.
 #[tactic(auto, using(crate::proofs::Says::says_past, crate::proofs::Says::asks_for, crate::proofs::Says::refused_by))]
 pub fn ask(alloc: Global, setup: &Setup, before: u64, line: &[u8]) -> Result<ScriptLine, AskStop>
@@ -73,7 +73,7 @@ pub fn ask(alloc: Global, setup: &Setup, before: u64, line: &[u8]) -> Result<Scr
     }
 }
 
-/// How a script ends whose next line, with so many before it, is too long to be read.
+/// How a script ends after `before` lines, where the next one is too long to be read.
 #[tactic(auto, using(crate::proofs::Says::says_past, crate::proofs::Says::too_long))]
 pub fn refuse_long_line(before: u64) -> Ending
     ensures { (s : Setup) → says s before None ≡ Ends result }

@@ -8,8 +8,8 @@ ghost use Rattle.qq_cluster_run.specs.Setup.{Logs, cluster_over, members_by, pla
 
 use qq_base::{Bytes, CLIENT, NodeId, QueueId, SessionId, Text};
 use qq_entry::{BODY_LIMIT, IDS_LIMIT, KEY_LIMIT, Mode, Unstamped};
+use qq_route::{QueueRow, Setup};
 use qq_script_lines::{Nodes, ScriptLine};
-use qq_setup::{QueueRow, Setup};
 
 // ---- what a client asks for
 

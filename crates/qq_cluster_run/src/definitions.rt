@@ -2,7 +2,7 @@
 ghost use Rattle.std.specs.Prelude.{◌≡◌, ◌⊎◌, ◌≤◌, Some, IfOk, IfErr, IsOkUnless, OnOk, ◌++◌};
 ghost use Rattle.qq_defs.specs.Runnable.{IsRunnable};
 ghost use Rattle.qq_ports.specs.Streams.{Writes, shelf_state, sink_state};
-ghost use Rattle.qq_setup.specs.Setup.{state_of, plain_setup};
+ghost use Rattle.qq_route.specs.Setup.{state_of, plain_setup};
 ghost use Rattle.qq_cluster_run.specs.Definitions.{HasMadeCause, IsMadeBy, IsSetupOver, MayNotBegin, MayNotRead, counted, made_counts, made_text, skipped_counts};
 ghost use Rattle.qq_cluster_run.specs.Endings.{no_memory};
 
@@ -11,8 +11,8 @@ use crate::stop::PrintFault;
 use qq_base::Memory;
 use qq_defs::{read, setups_may_be_run};
 use qq_ports::{Shelf, ShelfFault, Sink, write_all};
+use qq_route::{Made, Setup};
 use qq_script::{push_number, push_text};
-use qq_setup::{Made, Setup};
 use qq_words::Options;
 use std::alloc::Global;
 

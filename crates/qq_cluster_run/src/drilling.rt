@@ -7,8 +7,8 @@ ghost use Rattle.qq_script_lines.specs.declared.line.ScriptLine.TheVariants as s
 
 use qq_base::{Memory, NodeId, QueueId};
 use qq_drill::{Drill, is_sixteenth, resends};
+use qq_route::members;
 use qq_script_lines::ScriptLine;
-use qq_setup::members;
 use std::alloc::Global;
 
 /// How many steps a drill has.

@@ -54,7 +54,7 @@ impl Model for Ending {
     } };
 }
 
-// What stands behind the number of a line that isn't served.
+// The end of a closing line, after the number of the line that isn't served.
 fn fault_end(fault: ScriptFault) -> &'static str
     ensures { result.now ≡ codes ": " ++ fault_text fault ++ codes "\n" }
 {
@@ -239,7 +239,7 @@ impl Ending {
         }
     }
 
-    /// A body has so many bytes, more than it may have.
+    /// A body has `size` bytes, more than a body may have.
     pub fn limit_body(size: u64) -> Self
         ensures { result ≡ limit_body size }
     {

@@ -1,14 +1,14 @@
 //! Worked scripts: what they print, letter by letter.
 ghost use Rattle.std.specs.Prelude.{◌≡◌, ◌++◌, [], ℕ, List, None, codes};
 ghost use Rattle.qq_base.specs.Fronts.{IsFront};
-ghost use Rattle.qq_setup.specs.declared.setup.Setup.{Setup};
+ghost use Rattle.qq_route.specs.declared.setup.Setup.{Setup};
 ghost use Rattle.qq_words.specs.declared.options.Options.{Options};
 ghost use Rattle.qq_cluster_run.specs.Printing.{IsQuiet};
 ghost use Rattle.qq_cluster_run.specs.Runs.{BreaksOff, IsSetup};
 ghost use Rattle.qq_cluster_run.specs.Statuses.{Had, Account, IsServed, IsRefused, IsReadFault, IsLimited, first_streams, last_streams};
 
 use crate::setups::clusters_begin_with_new_logs;
-use qq_cluster::{lines_settle, scripts_may_be_served};
+use qq_cluster_model::{lines_settle, scripts_may_be_served};
 
 /// A law: what scripts over one queue of one node print, over new logs, where no call of a disk fails and
 /// nothing is restarted.

@@ -1,8 +1,8 @@
-//! What an export comes to in a run, as laws: the functions do nothing, and their contracts are the laws.
+//! What becomes of an export in a run, as laws: the functions do nothing, and their contracts are the laws.
 ghost use Rattle.std.specs.Prelude.{◌≡◌, ◌⊎◌, ◌++◌, [], ℕ, List, Option, Some, None, Ok, Err, codes};
 ghost use Rattle.std.specs.Fmt.{decimal};
 ghost use Rattle.qq_ports.specs.Streams.{ShelfFails, ShelfState};
-ghost use Rattle.qq_setup.specs.Setup.{SetupState};
+ghost use Rattle.qq_route.specs.Setup.{SetupState};
 ghost use Rattle.qq_defs.specs.Definitions.{document, read_setup};
 ghost use Rattle.qq_defs.specs.declared.fault.DefsFault.{DefsFault};
 ghost use Rattle.qq_defs.specs.declared.fault.DefsFault.TheVariants as faults;

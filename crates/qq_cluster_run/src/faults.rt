@@ -8,13 +8,13 @@ ghost use Rattle.qq_base.specs.declared.ids.QueueId.{QueueId};
 ghost use Rattle.qq_base.specs.declared.ids.SessionId.{SessionId};
 ghost use Rattle.qq_log.specs.declared.op.Op.{Op};
 ghost use Rattle.qq_log.specs.Stable.{Stable, stable};
-ghost use Rattle.qq_setup.specs.declared.setup.Setup.{Setup};
+ghost use Rattle.qq_route.specs.declared.setup.Setup.{Setup};
 ghost use Rattle.qq_script_lines.specs.declared.fault.ScriptFault.{ScriptFault};
 ghost use Rattle.qq_script_lines.specs.declared.fault.ScriptFault.TheVariants.{NoSuch};
 ghost use Rattle.qq_script_lines.specs.declared.line.ScriptLine.TheVariants.{Attach};
 ghost use Rattle.qq_words.specs.declared.options.Options.{Options};
-ghost use Rattle.qq_cluster.specs.Cluster.{Setup as ClusterSetup, ClusterEvent, members};
-ghost use Rattle.qq_cluster.specs.Laws.{IsBegun};
+ghost use Rattle.qq_cluster_model.specs.Cluster.{Setup as ClusterSetup, ClusterEvent, members};
+ghost use Rattle.qq_cluster_model.specs.Laws.{IsBegun};
 ghost use Rattle.qq_cluster_run.specs.Endings.{fault_text, lost};
 ghost use Rattle.qq_cluster_run.specs.Inputs.{Input, inputs_of};
 ghost use Rattle.qq_cluster_run.specs.Reading.{Asks, read_input, says};
@@ -83,12 +83,12 @@ pub fn faults_are_told()
 /// read of it on the printed node.
 ///
 /// At the opening that was before anything had happened. On the first nodes recovery has read of the queue these
-/// lanes, or the node's disk has failed. Whatever logs of changes of the queue come to that, without ops where the disk
-/// has failed, no queue may begin with them.
+/// lanes, or the node's disk has failed. No queue may begin with any logs of changes of the queue that give
+/// these lanes, and have no ops where the disk has failed.
 ///
 /// After the lines that were served the node was down when it was recovered, after the restarts of nodes before it,
-/// and its member may not take up what recovery has read: it was noticed of more, its log was handed fewer, or that
-/// isn't what its ops come to.
+/// and its member may not take up what recovery has read: it was noticed of more, its log was handed fewer, or its
+/// ops give another log.
 pub fn lost_queues_are_told()
     ensures { (options : Options) (s : Account) → HasEnded 9 options s →
         (setup : Setup) × IsSetup options setup × (((place : ℕ)

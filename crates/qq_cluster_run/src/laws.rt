@@ -2,10 +2,10 @@
 ghost use Rattle.std.specs.Prelude.{◌≡◌, ◌⊎◌, ◌≤◌, ◌<◌, ◌+◌, ◌++◌, [], ℕ, List, false, codes, Contains};
 ghost use Rattle.std.specs.Fmt.{decimal};
 ghost use Rattle.qq_ports.specs.Streams.{ShelfState};
-ghost use Rattle.qq_setup.specs.declared.setup.Setup.{Setup};
+ghost use Rattle.qq_route.specs.declared.setup.Setup.{Setup};
 ghost use Rattle.qq_words.specs.declared.options.Options.{Options};
-ghost use Rattle.qq_cluster.specs.Cluster.{ClusterEvent, Setup as ClusterSetup};
-ghost use Rattle.qq_cluster.specs.ClusterLaws.{PrintsWhatIsTrue, has_failure, findings, verdicts};
+ghost use Rattle.qq_cluster_model.specs.Cluster.{ClusterEvent, Setup as ClusterSetup};
+ghost use Rattle.qq_cluster_model.specs.ClusterLaws.{PrintsWhatIsTrue, has_failure, findings, verdicts};
 ghost use Rattle.qq_cluster_run.specs.Endings.{usage};
 ghost use Rattle.qq_cluster_run.specs.Inputs.{Input, inputs_of};
 ghost use Rattle.qq_cluster_run.specs.Printing.{HasNoFault};
@@ -15,11 +15,11 @@ ghost use Rattle.qq_cluster_run.specs.Statuses.{Had, Account, HasEnded, HasEnded
 ghost use Rattle.qq_cluster_run.specs.Runs.{IsSetup};
 ghost use Rattle.qq_cluster_run.specs.Troubles.{TakerIsGone};
 
-use qq_cluster::{a_cluster_prints_what_is_true, lines_settle};
+use qq_cluster_model::{a_cluster_prints_what_is_true, lines_settle};
 
-/// A law: what an exit status tells of a run, where source and sink tell their bytes.
+/// A law: what an exit status says of a run, where source and sink show their bytes.
 ///
-/// - `told`: 0, all lines were served, and behind their text stand the audits. 4, some lines were served,
+/// - `told`: 0, all lines were served, and after their text stand the audits. 4, some lines were served,
 ///   and the next one is refused by its number and its fault, or since no taker is there that it is to give.
 ///   5, the source has failed, and all lines that end within what was read were served. 6, the sink has
 ///   failed, and what it has is a first part of what is printed. 7, the yard has failed at the opening or at

@@ -2,8 +2,8 @@
 ghost use Rattle.std.specs.Prelude.{◌≡◌, [], ℕ, List, Ok, Err, codes, replicate};
 ghost use Rattle.qq_base.specs.Ids.{client};
 ghost use Rattle.qq_defs.specs.Runnable.{IsRunnable};
-ghost use Rattle.qq_setup.specs.Setup.{state_of};
-ghost use Rattle.qq_setup.specs.declared.setup.Setup.{Setup};
+ghost use Rattle.qq_route.specs.Setup.{state_of};
+ghost use Rattle.qq_route.specs.declared.setup.Setup.{Setup};
 ghost use Rattle.qq_script_lines.specs.declared.fault.ScriptFault.TheVariants.{Words, Number, Body};
 ghost use Rattle.qq_script_lines.specs.declared.line.ScriptLine.{ScriptLine};
 ghost use Rattle.qq_script_lines.specs.declared.line.ScriptLine.TheVariants.{Send};

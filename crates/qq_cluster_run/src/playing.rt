@@ -1,8 +1,8 @@
 //! What a drill has shown so far, and the line that is written of it in the end.
 ghost use Rattle.std.specs.Prelude.{◌≡◌, ◌<◌, ◌≤◌, ◌++◌, ◌∷◌, [], codes, length, string_bytes, IfOk, IsOkUnless, OnOk};
-ghost use Rattle.qq_setup.specs.Setup.{state_of};
+ghost use Rattle.qq_route.specs.Setup.{state_of};
 ghost use Rattle.qq_defs.specs.Runnable.{IsRunnable};
-ghost use Rattle.qq_cluster.specs.Outcome.{deliveries_among};
+ghost use Rattle.qq_cluster_model.specs.Outcome.{deliveries_among};
 ghost use Rattle.qq_drill.specs.Drill.{new_drill};
 ghost use Rattle.qq_cluster_run.specs.Drilling.{Known, after_part, begin_part, drill_setup, first_digits, first_known, hear_each, part_lines, summary, tell};
 ghost use Rattle.qq_cluster_run.specs.Playing.{Knows};
@@ -12,9 +12,9 @@ use crate::drilling::{Part, part_lines};
 use qq_base::Memory;
 use qq_defs::setups_may_be_run;
 use qq_drill::Drill;
+use qq_route::Setup;
 use qq_script::push_text;
 use qq_script_lines::ScriptLine;
-use qq_setup::Setup;
 use qq_taker::{Heard, What};
 use qq_words::{LOG_BYTES, NodeCount};
 use sha2::{Digest, Sha256};

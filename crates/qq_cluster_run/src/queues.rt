@@ -4,7 +4,7 @@ ghost use Rattle.std.specs.Prelude.{◌≡◌, ◌⊎◌, ◌≤◌, ◌++◌, �
 ghost use Rattle.qq_base.specs.Fronts.{IsFront};
 ghost use Rattle.qq_base.specs.Ids.{client};
 ghost use Rattle.qq_base.specs.declared.ids.ConsumerId.{ConsumerId};
-ghost use Rattle.qq_setup.specs.declared.setup.Setup.{Setup};
+ghost use Rattle.qq_route.specs.declared.setup.Setup.{Setup};
 ghost use Rattle.qq_entry.specs.Command.{stamp};
 ghost use Rattle.qq_entry.specs.declared.answer.Answer.TheVariants.{Confirmed};
 ghost use Rattle.qq_entry.specs.declared.answer.Delivery.{Delivery};
@@ -15,15 +15,15 @@ ghost use Rattle.qq_model.specs.Audit.{audit_of, deliveries, effects_of};
 ghost use Rattle.qq_model.specs.State.{empty_queue};
 ghost use Rattle.qq_session.specs.Answered.{IsAnswered};
 ghost use Rattle.qq_session.specs.Clients.{sender, ended_by};
-ghost use Rattle.qq_session.specs.Shown.{Answered, Delivered};
-ghost use Rattle.qq_cluster.specs.Cluster.{ClusterEvent, Of};
-ghost use Rattle.qq_cluster.specs.ClusterLaws.{shown_at};
-ghost use Rattle.qq_cluster.specs.Laws.{deliveries_shown};
+ghost use Rattle.qq_session.specs.declared.shown.Shown.TheVariants.{Answered, Delivered};
+ghost use Rattle.qq_cluster_model.specs.Cluster.{ClusterEvent, Of};
+ghost use Rattle.qq_cluster_model.specs.ClusterLaws.{shown_at};
+ghost use Rattle.qq_cluster_model.specs.Laws.{deliveries_shown};
 ghost use Rattle.qq_cluster_run.specs.Inputs.{Input};
 ghost use Rattle.qq_cluster_run.specs.Printing.{audit_behind, printed_behind, queue_behind, is_confirmed_publish};
 ghost use Rattle.qq_cluster_run.specs.Serving.{AnyDisks, Behind, setup_behind};
 
-use qq_cluster::{
+use qq_cluster_model::{
     a_cluster_prints_what_is_true, an_audit_is_serial, deliveries_are_printed_in_order,
     each_queue_is_its_own, ops_are_noticed_once_synced, sessions_go_on,
 };

@@ -1,25 +1,25 @@
-//! What lines come to at a cluster, as laws: the functions do nothing, and their contracts are the laws.
+//! How a cluster serves lines, as laws: the functions do nothing, and their contracts are the laws.
 ghost use Rattle.std.specs.Prelude.{◌≡◌, ◌++◌, [], List, true, false, codes};
 ghost use Rattle.std.specs.Fmt.{decimal};
 ghost use Rattle.qq_base.specs.declared.ids.NodeId.{NodeId};
 ghost use Rattle.qq_base.specs.declared.ids.QueueId.{QueueId};
 ghost use Rattle.qq_defs.specs.Runnable.{IsRunnable};
-ghost use Rattle.qq_setup.specs.Setup.{state_of};
-ghost use Rattle.qq_setup.specs.declared.setup.Setup.{Setup};
+ghost use Rattle.qq_route.specs.Setup.{state_of};
+ghost use Rattle.qq_route.specs.declared.setup.Setup.{Setup};
 ghost use Rattle.qq_script_lines.specs.declared.line.ScriptLine.{ScriptLine};
 ghost use Rattle.qq_script_lines.specs.declared.line.ScriptLine.TheVariants.{Pump, Write, Sync, Notice, Tick};
-ghost use Rattle.qq_cluster.specs.Cluster.{Setup as ClusterSetup, Cluster, ClusterEvent};
-ghost use Rattle.qq_cluster.specs.ClusterLaws.{has_failure, findings};
-ghost use Rattle.qq_cluster.specs.Lines.{IsLine};
-ghost use Rattle.qq_cluster.specs.Rules.{is_idle};
-ghost use Rattle.qq_cluster.specs.Texts.{text_of};
+ghost use Rattle.qq_cluster_model.specs.Cluster.{Setup as ClusterSetup, Cluster, ClusterEvent};
+ghost use Rattle.qq_cluster_model.specs.ClusterLaws.{has_failure, findings};
+ghost use Rattle.qq_cluster_model.specs.Lines.{IsLine};
+ghost use Rattle.qq_cluster_model.specs.Rules.{is_idle};
+ghost use Rattle.qq_cluster_model.specs.Texts.{text_of};
 ghost use Rattle.qq_cluster_run.specs.Inputs.{Input};
 ghost use Rattle.qq_cluster_run.specs.Reading.{AskFor};
 ghost use Rattle.qq_cluster_run.specs.Serving.{AnyDisks, Behind};
 ghost use Rattle.qq_cluster_run.specs.Setup.{CanBegin, Logs, new_logs};
 
 use crate::setups::clusters_begin_with_new_logs;
-use qq_cluster::{a_node_that_is_down_says_so, pumps_end, scripts_may_be_served};
+use qq_cluster_model::{a_node_that_is_down_says_so, pumps_end, scripts_may_be_served};
 
 /// A law: where each line asks for something, they may all be served, with no call of a disk that fails.
 ///

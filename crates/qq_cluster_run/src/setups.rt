@@ -6,10 +6,10 @@ ghost use Rattle.qq_base.specs.declared.ids.QueueId.{QueueId};
 ghost use Rattle.qq_entry.specs.Queue.{default_args};
 ghost use Rattle.qq_raft_model.specs.Group.{new_group};
 ghost use Rattle.qq_route.specs.Routes.{targets};
-ghost use Rattle.qq_setup.specs.declared.setup.Setup.{Setup};
-ghost use Rattle.qq_setup.specs.Members.{members};
-ghost use Rattle.qq_setup.specs.Setup.{plain_setup, state_of};
-ghost use Rattle.qq_cluster.specs.ClusterLaws.{HasGroups};
+ghost use Rattle.qq_route.specs.declared.setup.Setup.{Setup};
+ghost use Rattle.qq_route.specs.Members.{members};
+ghost use Rattle.qq_route.specs.Setup.{plain_setup, state_of};
+ghost use Rattle.qq_cluster_model.specs.ClusterLaws.{HasGroups};
 ghost use Rattle.qq_cluster_run.specs.Setup.{cluster_of, cluster_setup, new_logs};
 ghost use Rattle.qq_defs.specs.Runnable.{IsRunnable};
 

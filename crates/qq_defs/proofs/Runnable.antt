@@ -19,9 +19,9 @@ use Rattle.qq_entry.specs.declared.queue.QueueArgs.{QueueArgs}
 use Rattle.qq_route.specs.declared.exchange.Binding.{Binding}
 use Rattle.qq_route.specs.declared.exchange.ExchangeKind.{ExchangeKind}
 use Rattle.qq_route.specs.Routes.{ExchangeState, Table, add_exchange, bind, is_bindable, new_table, same_kind}
-use Rattle.qq_setup.specs.declared.queue_row.QueueRow.{QueueRow}
-use Rattle.qq_setup.specs.Members.{member, members}
-use Rattle.qq_setup.specs.Setup.{SetupState, declare as declare_row, plain_row, plain_rows, plain_setup}
+use Rattle.qq_route.specs.declared.queue_row.QueueRow.{QueueRow}
+use Rattle.qq_route.specs.Members.{member, members}
+use Rattle.qq_route.specs.Setup.{SetupState, declare as declare_row, plain_row, plain_rows, plain_setup}
 use Rattle.qq_defs.specs.declared.definitions.TheConstants.{QUEUES_LIMIT}
 use Rattle.qq_defs.specs.declared.fault.DefsFault.{DefsFault}
 use Rattle.qq_defs.specs.declared.fault.DefsFault.TheVariants.{Unsupported}

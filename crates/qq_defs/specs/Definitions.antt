@@ -13,7 +13,7 @@ use Rattle.qq_defs.specs.declared.fields.Place.{Place}
 use Rattle.qq_defs.specs.declared.definitions.TheConstants.{QUEUES_LIMIT}
 use Rattle.qq_defs.specs.Reading.{◌>>=◌, required}
 use Rattle.qq_defs.specs.Draft.{DraftState}
-use Rattle.qq_setup.specs.Setup.{SetupState}
+use Rattle.qq_route.specs.Setup.{SetupState}
 use Rattle.qq_defs.specs.Elements.{element_at}
 
 abbrev pub place : Section → ℕ → Place

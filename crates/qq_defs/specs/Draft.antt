@@ -6,10 +6,10 @@ use Rattle.qq_base.specs.declared.ids.QueueId.{QueueId}
 use Rattle.qq_entry.specs.declared.queue.QueueArgs.{QueueArgs}
 use Rattle.qq_route.specs.Routes.{Table, add_queue}
 use Rattle.qq_route.specs.View.{table_of}
-use Rattle.qq_setup.specs.declared.queue_row.QueueRow.{QueueRow}
-use Rattle.qq_setup.specs.declared.setup.Made.{Made}
+use Rattle.qq_route.specs.declared.queue_row.QueueRow.{QueueRow}
+use Rattle.qq_route.specs.declared.setup.Made.{Made}
 use Rattle.qq_defs.specs.declared.draft.Draft.{Draft}
-use Rattle.qq_setup.specs.Members.{members}
+use Rattle.qq_route.specs.Members.{members}
 
 -- the queues of the virtual host so far, by their names; no number for one of another type
 abbrev pub Names : Type 0

@@ -1,9 +1,9 @@
 -- What a run needs of its setup.
 use Rattle.std.specs.Prelude.{◌≡◌, ◌<◌, ◌≤◌, ◌+◌, ◌^◌, ℕ, List, [], ◌∷◌, All, length}
 use Rattle.qq_entry.specs.declared.limits.TheConstants.{KEY_LIMIT}
-use Rattle.qq_setup.specs.declared.queue_row.QueueRow.{QueueRow}
-use Rattle.qq_setup.specs.Members.{members}
-use Rattle.qq_setup.specs.Setup.{SetupState}
+use Rattle.qq_route.specs.declared.queue_row.QueueRow.{QueueRow}
+use Rattle.qq_route.specs.Members.{members}
+use Rattle.qq_route.specs.Setup.{SetupState}
 
 -- The queue that has so many before it has the next number, and the members that this and the size of its group give.
 -- Its name may be a routing key.

@@ -2,7 +2,7 @@ ghost use Rattle.std.specs.Prelude.{◌≡◌, ◌<◌, Ok, Err, IfOk, IsOkUnles
 ghost use Rattle.serde_json.specs.View.{view, items_view};
 ghost use Rattle.qq_defs.specs.Draft.{state_of};
 ghost use Rattle.qq_defs.specs.Reading.{Gives};
-ghost use Rattle.qq_setup.specs.Setup.{state_of as setup_state};
+ghost use Rattle.qq_route.specs.Setup.{state_of as setup_state};
 ghost use Rattle.qq_defs.specs.Definitions.{elements, list_at, list_or_none, list_of, is_empty, as_setup, document, read_setup, check_policies, first_state, with_section, within_limit, object_defs, definitions};
 
 use crate::draft::Draft;
@@ -10,8 +10,7 @@ use crate::elements::element_at;
 use crate::fault::DefsFault;
 use crate::fields::{Place, Section};
 use qq_base::{Memory, Text};
-use qq_route::Routes;
-use qq_setup::{Made, QueueRows, Setup};
+use qq_route::{Made, QueueRows, Routes, Setup};
 use serde_json::Value;
 use std::alloc::Global;
 use std::collections::BTreeMap;

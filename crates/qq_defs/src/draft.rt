@@ -1,12 +1,11 @@
 ghost use Rattle.std.specs.Prelude.{◌≡◌, ◌<◌, ◌-◌, ◌+◌, ◌^◌, Some, None, OnOk, IfOk, IsOkUnless};
 ghost use Rattle.std.specs.BTreeMap.{get_by_text};
-ghost use Rattle.qq_setup.specs.Members.{members};
+ghost use Rattle.qq_route.specs.Members.{members};
 ghost use Rattle.qq_defs.specs.Draft.{state_of, more, put_name, before, next_queue, skip, declare, count_other};
 
 use qq_base::{Memory, QueueId, Text, both};
 use qq_entry::QueueArgs;
-use qq_route::Routes;
-use qq_setup::{Made, QueueRow, QueueRows, members};
+use qq_route::{Made, QueueRow, QueueRows, Routes, members};
 use std::alloc::Global;
 use std::collections::BTreeMap;
 

@@ -3,11 +3,11 @@ ghost use Rattle.std.specs.Prelude.{◌≡◌, ◌<◌, ◌≤◌, ◌^◌, ℕ,
 ghost use Rattle.qq_base.specs.declared.memory.Memory.TheVariants.{Want};
 ghost use Rattle.qq_defs.specs.declared.fault.DefsFault.{DefsFault};
 ghost use Rattle.qq_defs.specs.declared.fault.DefsFault.TheVariants.{Memory};
-ghost use Rattle.qq_setup.specs.declared.setup.Setup.{Setup};
+ghost use Rattle.qq_route.specs.declared.setup.Setup.{Setup};
 ghost use Rattle.qq_defs.specs.Definitions.{document, read_setup};
 ghost use Rattle.qq_defs.specs.Reading.{Gives, with_memory};
 ghost use Rattle.qq_defs.specs.Runnable.{IsRunnable};
-ghost use Rattle.qq_setup.specs.Setup.{SetupState, plain_setup, state_of};
+ghost use Rattle.qq_route.specs.Setup.{SetupState, plain_setup, state_of};
 
 /// Memory takes part in no answer but its own: any other answer of `read` is what reading the text gives, the
 /// setup itself or the first fault itself.

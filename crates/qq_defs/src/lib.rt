@@ -16,4 +16,4 @@ pub use arguments::queue_args;
 pub use definitions::{QUEUES_LIMIT, read, read_document};
 pub use fault::DefsFault;
 pub use laws::{memory_takes_no_part, setups_may_be_run};
-pub use qq_setup::{Made, QueueRow, QueueRows, Setup};
+pub use qq_route::{Made, QueueRow, QueueRows, Setup};

@@ -14,7 +14,7 @@ use Rattle.qq_script_lines.specs.Images.{newest_left}
 use Rattle.qq_script_lines.specs.declared.line.Nodes.TheVariants.{One}
 use Rattle.qq_script_lines.specs.declared.line.ScriptLine.{ScriptLine}
 use Rattle.qq_script_lines.specs.declared.line.ScriptLine.TheVariants as lines
-use Rattle.qq_setup.specs.Members.{members}
+use Rattle.qq_route.specs.Members.{members}
 use Rattle.qq_drill.specs.Draw.{draw_of, drawn, next_x}
 use Rattle.qq_drill.specs.declared.draw.Deed.{Deed}
 use Rattle.qq_drill.specs.declared.draw.Deed.TheVariants.{Sends, Gets, Subscribes, Settles, Returns, Crashes, Ticks}

@@ -11,8 +11,8 @@ use crate::side::{Held, TAGS_MOST};
 use qq_base::{Bytes, Ids, Memory, NodeId, QueueId, SessionId, Text};
 use qq_disk::{Image, Tail};
 use qq_entry::{Mode, Unstamped};
+use qq_route::members;
 use qq_script_lines::{Nodes, ScriptLine};
-use qq_setup::members;
 use std::alloc::Global;
 
 /// How many members a queue's group has at most.

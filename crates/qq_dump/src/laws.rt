@@ -31,7 +31,7 @@ pub fn log_files_are_those_that_are_shown()
         contents d (log_of file.number) ≡ Some file.bytes → Contains (log_files d) file }
 {}
 
-/// What a dump comes to over a sink that tells what was written.
+/// What a dump has written, over a sink that shows its bytes.
 ///
 /// - `ok`: all that was written is the text of the log files, where the disk tells what it holds.
 /// - `whole`: where the disk failed, or there was no memory, what was written are whole texts, of files from the first on.

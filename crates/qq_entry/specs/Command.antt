@@ -1,6 +1,6 @@
 -- The parts of a command.
 use Rattle.std.specs.Prelude.{ℕ, Option, Some, None}
-use Rattle.std.specs.Option.{option_map}
+use Rattle.std.specs.Option.{option_map, option_map_or}
 use Rattle.qq_base.specs.declared.ids.SessionId.{SessionId}
 use Rattle.qq_base.specs.declared.ids.ConsumerId.{ConsumerId}
 use Rattle.qq_entry.specs.declared.command.Stamp.{Stamp}
@@ -19,6 +19,10 @@ stamp (Return by tag ids) = Some by
 stamp (Discard by tag ids) = Some by
 stamp (Purge by) = Some by
 stamp _ = None
+
+-- the number of a stamped command, and 0 of one without a stamp
+abbrev pub seq_of : Command → ℕ
+seq_of command = option_map_or (λ (by : Stamp). by.seq) (stamp command) 0
 
 -- the session that gave a command
 abbrev pub session : Command → Option SessionId

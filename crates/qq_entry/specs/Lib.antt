@@ -3,3 +3,5 @@ pub mod Command
 pub mod Message
 pub mod Queue
 pub mod Range
+pub mod Answers
+pub mod Same

@@ -228,7 +228,7 @@ impl Stamp {
 
 impl Command {
     ghost use Rattle.std.specs.Prelude.{◌≡◌};
-    ghost use Rattle.qq_entry.specs.Command.{session, stamp, tag};
+    ghost use Rattle.qq_entry.specs.Command.{seq_of, session, stamp, tag};
 
     /// The stamp of a command that goes through the session gate.
     pub fn stamp(&self) -> Option<Stamp>
@@ -245,6 +245,16 @@ impl Command {
             | Command::Discard { stamp, .. }
             | Command::Purge { stamp } => Some(*stamp),
             _ => None,
+        }
+    }
+
+    /// The number of a command with a stamp, and 0 of any other.
+    pub fn seq_of(&self) -> u64
+        ensures { result ≡ seq_of self.now }
+    {
+        match self.stamp() {
+            None => 0,
+            Some(stamp) => stamp.seq,
         }
     }
 

@@ -1,3 +1,2 @@
 pub mod Addressed
 pub mod Audited
-pub mod Plain

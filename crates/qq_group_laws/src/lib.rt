@@ -3,6 +3,7 @@
 //! So none of the definitions that say so can be weakened alone. No code but laws.
 #![tactic(auto)]
 
+mod answered;
 mod audited;
 mod ends;
 mod fits;
@@ -11,13 +12,13 @@ mod handing;
 mod members;
 mod messages;
 mod openings;
-mod plain;
 mod refusals;
 mod restarts;
 mod sources;
 mod spent;
 mod steps;
 
+pub use answered::a_command_with_a_row_is_answered;
 pub use audited::{each_row_is_of_the_audit, members_apply_the_audit};
 pub use ends::{a_number_of_the_queue_passes_its_end, applying_gives_up_at_an_end};
 pub use fits::{a_message_always_fits, a_message_is_from_one_member_to_another};
@@ -31,7 +32,6 @@ pub use members::{
 };
 pub use messages::{a_message_that_was_read_is_read_again, entries_of_a_term_have_one_sender};
 pub use openings::{a_member_that_isnt_named_is_told, an_opened_group_stands_for_a_state};
-pub use plain::{a_command_with_a_row_is_answered, a_row_is_of_the_serial_audit};
 pub use refusals::{
     a_command_is_refused_with_its_cause, a_failed_call_hands_nothing_out,
     a_number_is_told_at_its_end,

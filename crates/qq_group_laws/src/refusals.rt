@@ -16,7 +16,7 @@ use qq_raft_msg::{LogView, Queue};
 
 /// A law: why a call of the Raft part gives up.
 ///
-/// - `spent`: a number that is told to be at its end is 2^63, and so many are the changes, or the term, or the entries.
+/// - `spent`: the number that a refusal names is 2^63, and the changes, the term or the entries count as many.
 /// - `want`: while all three are below, there is no memory.
 pub fn a_number_is_told_at_its_end()
     ensures spent { (s : Raft) (number : ℕ) → IsCaused s (Spent number) → (number ≡ 2 ^ 63)

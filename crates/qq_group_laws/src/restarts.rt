@@ -22,7 +22,7 @@ use qq_raft_msg::{LogView, Queue};
 ///
 /// - `found`, `noticed`: its op is told as it was found, and the greatest op that its member was noticed of.
 /// - `known`: it is known what it was handed.
-/// - `lost`: it isn't what this comes to, up to an op that isn't older than what was noticed.
+/// - `lost`: the ops that it was handed, up to any one that isn't older than the noticed one, give another log.
 /// - `memory`: where something else is told, there was no memory.
 pub fn a_lost_log_is_told_as_it_was_found<Q: Queue, L: LogView>()
     ensures found { (k noticed found : ℕ) (l : LogState) (old : Group Q L) →

@@ -15,15 +15,15 @@ use Rattle.qq_raft_model.specs.Group.{Group, Seat}
 use Rattle.qq_raft_model.specs.Promises.{AreDistinct, members_of}
 use Rattle.qq_raft_protocol.specs.Facts.{In}
 use Rattle.qq_raft_protocol.proofs.Lists.{In-cases}
-use Rattle.qq_setup.specs.declared.queue_row.QueueRow.{QueueRow}
+use Rattle.qq_route.specs.declared.queue_row.QueueRow.{QueueRow}
 use Rattle.qq_wal_chain.specs.Lanes.{Lanes}
-use Rattle.qq_cluster.specs.Cluster.{Setup}
-use Rattle.qq_cluster.specs.ClusterLaws.{HasGroups}
-use Rattle.qq_cluster.specs.Laws.{IsBegun}
-use Rattle.qq_cluster_queue.specs.Agreeing.{BeginsWith, HasItsLogs}
-use Rattle.qq_cluster_queue.specs.Members.{Member}
-use Rattle.qq_cluster_queue.specs.declared.cluster_queue.ClusterQueue.{ClusterQueue}
-use Rattle.qq_nodes.specs.Setting.{is_among}
+use Rattle.qq_cluster_model.specs.Cluster.{Setup}
+use Rattle.qq_cluster_model.specs.ClusterLaws.{HasGroups}
+use Rattle.qq_cluster_model.specs.Laws.{IsBegun}
+use Rattle.qq_queue.specs.Agreeing.{BeginsWith, HasItsLogs}
+use Rattle.qq_queue.specs.Members.{Member}
+use Rattle.qq_queue.specs.declared.cluster_queue.ClusterQueue.{ClusterQueue}
+use Rattle.qq_cluster.specs.Setting.{is_among}
 use Rattle.qq_opening.specs.Opened.{Agrees, Disagrees, IsOpenedQueue, IsUpWith}
 use Rattle.qq_opening.specs.Opening.{AreLogsOf, AreReadLogs, IsSetupWith, Logs, seat_over, state_read}
 use Rattle.qq_opening.proofs.ReadLogs.{none-come}

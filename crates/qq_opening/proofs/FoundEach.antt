@@ -17,40 +17,40 @@ use Rattle.qq_raft_model.specs.Group.{has_node, may_restart}
 use Rattle.qq_raft_protocol.specs.Facts.{In}
 use Rattle.qq_recover.specs.Recovered.{IsLaneFor}
 use Rattle.qq_wal_chain.specs.Lanes.{Lanes}
-use Rattle.qq_cluster.specs.Cluster.{Cluster, FindsEach, Setup, cluster_happens, members}
-use Rattle.qq_cluster.specs.Queue.{Finds, Queue, happens}
-use Rattle.qq_cluster.specs.Rules.{IsFound, IsNothing, IsRestart, is_quiet, is_settled}
+use Rattle.qq_cluster_model.specs.Cluster.{Cluster, FindsEach, Setup, cluster_happens, members}
+use Rattle.qq_cluster_model.specs.Queue.{Finds, Queue, happens}
+use Rattle.qq_cluster_model.specs.Rules.{IsFound, IsNothing, IsRestart, is_quiet, is_settled}
 use Rattle.qq_cluster_laws.specs.Linked.{IsReached, lot_of, parts_at}
 use Rattle.qq_cluster_laws.specs.Waiting.{IsChangeOf}
 use Rattle.qq_cluster_laws.proofs.Links.{TakesUp as TakesUpAt, all-may_find, found-follow}
 use Rattle.qq_cluster_laws.proofs.Reached.{counts-at}
 use Rattle.qq_cluster_laws.proofs.Waiting.{owns-ops}
-use Rattle.qq_cluster_queue.specs.ClusterQueue.{Stands as IsQueue}
-use Rattle.qq_cluster_queue.specs.Sessions.{standings}
-use Rattle.qq_cluster_queue.specs.declared.cluster_queue.ClusterQueue.{ClusterQueue}
+use Rattle.qq_queue.specs.ClusterQueue.{Stands as IsQueue}
+use Rattle.qq_queue.specs.Sessions.{standings}
+use Rattle.qq_queue.specs.declared.cluster_queue.ClusterQueue.{ClusterQueue}
 use Rattle.qq_node_log.specs.Ends.{End, end_of, ends}
 use Rattle.qq_node_log.specs.Found.{AllEnd, AreDistinct, AreLanes}
 use Rattle.qq_node_log.specs.Log.{IsRunning, IsWhole}
 use Rattle.qq_node_log.specs.declared.node_log.NodeLog.TheVariants.{Open}
 use Rattle.qq_node_log.proofs.Running.{running-same}
 use Rattle.qq_wal.specs.declared.wal.Wal.{Wal}
-use Rattle.qq_nodes.specs.Nodes.{IsNodeOf, IsQueueOf, Stands}
+use Rattle.qq_cluster.specs.Nodes.{IsNodeOf, IsQueueOf, Stands}
 use Rattle.qq_opening.specs.Restarting.{MayTakeUp}
 use Rattle.qq_opening.specs.declared.taking.Handed.{Handed}
 use Rattle.qq_opening.specs.Taking.{AllChange, IsHanded, IsNewSeat, TakesUpOne, handed_of, index_of, lane_base, lane_state, pair_index, pairs}
-use Rattle.qq_nodes.specs.declared.node.Node.{Node}
-use Rattle.qq_nodes.specs.declared.nodes.Nodes.{Nodes as Held}
+use Rattle.qq_cluster.specs.declared.node.Node.{Node}
+use Rattle.qq_cluster.specs.declared.nodes.Nodes.{Nodes as Held}
 use Rattle.qq_opening.proofs.Changing.{AreApart, Became, all-became, all-long}
 use Rattle.qq_opening.proofs.FoundLanes.{HasLane, distinct-ids, lane-end, lane-op, pair-has, pair-of, pairs-apart}
 use Rattle.qq_opening.proofs.FoundQueues.{found-ops, found-settled, not-found, quiet-found}
-use Rattle.qq_nodes.proofs.Membership.{out-settled, outside, to-list}
-use Rattle.qq_nodes.proofs.OwnStands.{QueuesOf}
-use Rattle.qq_nodes.proofs.Pumping.{rule-else}
-use Rattle.qq_nodes.proofs.Synced.{from-list, in-filter}
-use Rattle.qq_nodes.proofs.Taken.{apart-places}
-use Rattle.qq_nodes.proofs.Told.{place-here}
-use Rattle.qq_nodes.proofs.Turned.{within-length}
-use Rattle.qq_nodes.proofs.Walks.{from-range}
+use Rattle.qq_cluster.proofs.Membership.{out-settled, outside, to-list}
+use Rattle.qq_cluster.proofs.OwnStands.{QueuesOf}
+use Rattle.qq_cluster.proofs.Pumping.{rule-else}
+use Rattle.qq_cluster.proofs.Synced.{from-list, in-filter}
+use Rattle.qq_cluster.proofs.Taken.{apart-places}
+use Rattle.qq_cluster.proofs.WaitsThere.{place-here}
+use Rattle.qq_cluster.proofs.Turned.{within-length}
+use Rattle.qq_cluster.proofs.Walks.{from-range}
 
 -- ---- lists
 
@@ -322,9 +322,8 @@ module _ {D : Type 0} {facts : DiskFacts D} (setup : Setup) (c : Cluster) (k : �
                       many (takes.does (standings held.sessions) (c.queue (i + 1)) old.stands
                       (fits y here (i + 1) own.0.number));
                   sound = takes.sound;
-                  name_is = ap (λ l. l.name) takes.same.label_is ∙ old.name_is;
-                  first_is = ap (λ l. l.first) takes.same.label_is ∙ old.first_is;
-                  place_is = ap (λ l. l.queue.0) takes.same.label_is ∙ old.place_is;
+                  name_is = takes.same.name_is ∙ old.name_is;
+                  place_is = ap (λ a. a.queue.0) takes.same.args_is ∙ old.place_is;
                 }
             ways (inr (none, same)) =
                 let out = outside setup c k (i + 1) st.set_up.groups r (no-member i b.old b.was none) in
@@ -333,7 +332,6 @@ module _ {D : Type 0} {facts : DiskFacts D} (setup : Setup) (c : Cluster) (k : �
                       (sym (not-found k (ops (i + 1)) (c.queue (i + 1)) out.not_member)) old.stands;
                   sound = old.sound;
                   name_is = old.name_is;
-                  first_is = old.first_is;
                   place_is = old.place_is;
                 })
 

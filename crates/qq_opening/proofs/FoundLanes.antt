@@ -21,7 +21,7 @@ use Rattle.qq_raft_protocol.specs.Facts.{In}
 use Rattle.qq_recover.specs.Recovered.{IsLaneFor}
 use Rattle.qq_recover.specs.State.{IsPlainLaneOf}
 use Rattle.qq_wal_chain.specs.Lanes.{Lanes}
-use Rattle.qq_cluster.specs.Cluster.{Setup}
+use Rattle.qq_cluster_model.specs.Cluster.{Setup}
 use Rattle.qq_cluster_laws.specs.Waiting.{AreApart as PlacesApart, IsChangeOf}
 use Rattle.qq_opening.specs.Taking.{lane_base, lane_state, pair_index, pairs}
 use Rattle.qq_opening.proofs.Changing.{AreApart}

@@ -12,14 +12,14 @@ use Rattle.qq_raft_model.specs.Group.Event.{Restart}
 use Rattle.qq_raft_model.specs.Server.{restart}
 use Rattle.qq_raft_model.specs.State.{Server}
 use Rattle.qq_raft_protocol.specs.Facts.{In}
-use Rattle.qq_cluster.specs.Cluster.{Cluster, Setup, members}
-use Rattle.qq_cluster.specs.ClusterLaws.{HasGroups}
-use Rattle.qq_cluster.proofs.Takerless.{untold-still}
-use Rattle.qq_cluster.specs.Queue.{Finds, Queue, Stops, group_then, happens, synced_after, waiting_by}
-use Rattle.qq_cluster.specs.Rules.{is_quiet, is_quiet_at, is_settled}
+use Rattle.qq_cluster_model.specs.Cluster.{Cluster, Setup, members}
+use Rattle.qq_cluster_model.specs.ClusterLaws.{HasGroups}
+use Rattle.qq_cluster_model.proofs.Takerless.{untold-still}
+use Rattle.qq_cluster_model.specs.Queue.{Finds, Queue, Stops, group_then, happens, synced_after, waiting_by}
+use Rattle.qq_cluster_model.specs.Rules.{is_quiet, is_quiet_at, is_settled}
 use Rattle.qq_cluster_laws.specs.Linked.{IsReached, MembersFollow}
-use Rattle.qq_nodes.proofs.Membership.{member-up, outside}
-use Rattle.qq_nodes.proofs.Quiet.{all-from, all-in, put-own}
+use Rattle.qq_cluster.proofs.Membership.{member-up, outside}
+use Rattle.qq_cluster.proofs.Quiet.{all-from, all-in, put-own}
 
 -- ---- the seat of a member that restarts
 

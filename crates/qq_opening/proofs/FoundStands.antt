@@ -15,7 +15,7 @@ use Rattle.qq_raft_core.specs.Raft.{IsInLog, IsWithinEnds}
 use Rattle.qq_raft_core.specs.declared.lanes.Lanes.{Lanes}
 use Rattle.qq_raft_model.specs.Group.{Group as GroupState, Seat as SeatState, has_node, is_down, may_restart}
 use Rattle.qq_raft_model.specs.Handing.{plain_state}
-use Rattle.qq_raft_queues.specs.declared.machine_queue.MachineQueue.{MachineQueue}
+use Rattle.qq_queue.specs.declared.machine_queue.MachineQueue.{MachineQueue}
 use Rattle.qq_recover.specs.State.{IsSoundEntry, IsWithinEnds as IsLaneWithin}
 use Rattle.qq_group.specs.Follows.{OthersStay}
 use Rattle.qq_group.specs.Group.{IsSeat, IsSeatBy, KnowsLeft, Represents, server_at, server_by}
@@ -23,12 +23,12 @@ use Rattle.qq_group.specs.Restarts.{Finds as FindsLog, IsFound, IsRestartCaused,
 use Rattle.qq_group.specs.declared.restart.RestartFault.{RestartFault}
 use Rattle.qq_group.specs.declared.restart.RestartFault.TheVariants.{Lost, Memory}
 use Rattle.qq_group.specs.declared.seat.Seat.{Seat}
-use Rattle.qq_cluster.specs.Queue.{Finds, Queue, happens}
-use Rattle.qq_cluster_queue.specs.Agreeing.{BeginsWith}
-use Rattle.qq_cluster_queue.specs.ClusterQueue.{IsSameQueue, Stands as IsQueue}
-use Rattle.qq_cluster_queue.specs.Members.{AreSound, Member, Members, own_log}
-use Rattle.qq_cluster_queue.specs.Sessions.{Standings}
-use Rattle.qq_cluster_queue.specs.declared.cluster_queue.ClusterQueue.{ClusterQueue}
+use Rattle.qq_cluster_model.specs.Queue.{Finds, Queue, happens}
+use Rattle.qq_queue.specs.Agreeing.{BeginsWith}
+use Rattle.qq_queue.specs.ClusterQueue.{IsSameQueue, Stands as IsQueue}
+use Rattle.qq_queue.specs.Members.{AreSound, Member, Members, own_log}
+use Rattle.qq_queue.specs.Sessions.{Standings}
+use Rattle.qq_queue.specs.declared.cluster_queue.ClusterQueue.{ClusterQueue}
 use Rattle.qq_opening.specs.Restarting.{MayTakeUp}
 use Rattle.qq_opening.specs.Taking.{IsFindCaused, IsHanded, IsLostTo, IsNewSeat, IsNoLog, IsOfOps, IsTakeCaused, IsUnused, MayBeHanded, MayFind, MayNotFind, TakesUp, lane_base, lane_state, log_found}
 use Rattle.qq_opening.specs.declared.taking.Handed.{Handed}

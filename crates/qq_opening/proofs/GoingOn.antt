@@ -11,33 +11,33 @@ use Rattle.qq_log.specs.Log.{LogState}
 use Rattle.qq_log.specs.declared.lane.Lane.{Lane}
 use Rattle.qq_raft_model.specs.Group.{Group as GroupState, Seat as SeatState, has_node}
 use Rattle.qq_raft_protocol.specs.Facts.{In}
-use Rattle.qq_raft_queues.specs.declared.machine_queue.MachineQueue.{MachineQueue}
+use Rattle.qq_queue.specs.declared.machine_queue.MachineQueue.{MachineQueue}
 use Rattle.qq_group.specs.Group.{IsSeat, IsSeatBy, Represents, server_at, server_by}
 use Rattle.qq_group.specs.declared.seat.Seat.{Seat}
-use Rattle.qq_cluster.specs.Cluster.{Cluster, Setup, members}
+use Rattle.qq_cluster_model.specs.Cluster.{Cluster, Setup, members}
 use Rattle.qq_cluster_laws.specs.Linked.{IsReached}
 use Rattle.qq_cluster_laws.specs.Waiting.{AreApart}
 use Rattle.qq_cluster_laws.proofs.Reached.{group-made, made}
 use Rattle.qq_cluster_laws.proofs.Seats.{nodes-same}
-use Rattle.qq_cluster_queue.specs.Members.{Member, Members, own_log}
-use Rattle.qq_cluster_queue.specs.Sessions.{standings}
-use Rattle.qq_cluster_queue.specs.declared.cluster_queue.ClusterQueue.{ClusterQueue}
+use Rattle.qq_queue.specs.Members.{Member, Members, own_log}
+use Rattle.qq_queue.specs.Sessions.{standings}
+use Rattle.qq_queue.specs.declared.cluster_queue.ClusterQueue.{ClusterQueue}
 use Rattle.qq_node_log.specs.Found.{AreDistinct}
 use Rattle.qq_node_log.specs.Log.{IsWhole, disk_in}
 use Rattle.qq_recover.specs.State.{IsWithinEnds}
-use Rattle.qq_nodes.specs.Logs.{NodeTurns}
-use Rattle.qq_nodes.specs.Nodes.{CanServe, IsNodeAt, IsNodeOf, IsQueueOf, Stands}
+use Rattle.qq_cluster.specs.Logs.{NodeTurns}
+use Rattle.qq_cluster.specs.Nodes.{CanServe, IsNodeAt, IsNodeOf, IsQueueOf, Stands}
 use Rattle.qq_opening.specs.Taking.{AllChange, AreLanesAt, FindsLanes, GoesOn, IsTakeEachCaused, MayGoOn, MayStep, MayTakeAt, MayTakeEach, StaysDown, TakesUpOne, handed_of, index_of, pair_index, pairs}
 use Rattle.qq_opening.specs.declared.taking.Handed.{Handed}
-use Rattle.qq_nodes.specs.declared.node.Node.{Node}
-use Rattle.qq_nodes.specs.declared.nodes.Nodes.{Nodes as Held}
+use Rattle.qq_cluster.specs.declared.node.Node.{Node}
+use Rattle.qq_cluster.specs.declared.nodes.Nodes.{Nodes as Held}
 use Rattle.qq_opening.specs.declared.restarting.RestartFault.{RestartFault}
-use Rattle.qq_nodes.proofs.Items.{queues-sound}
-use Rattle.qq_nodes.proofs.OneQueue.{set-long}
-use Rattle.qq_nodes.proofs.OwnStands.{node-was, set-here}
-use Rattle.qq_nodes.proofs.Taken.{apart-places}
-use Rattle.qq_nodes.proofs.Told.{own-node}
-use Rattle.qq_nodes.proofs.Walks.{from-range}
+use Rattle.qq_cluster.proofs.Items.{queues-sound}
+use Rattle.qq_cluster.proofs.OneQueue.{set-long}
+use Rattle.qq_cluster.proofs.OwnStands.{node-was, set-here}
+use Rattle.qq_cluster.proofs.Taken.{apart-places}
+use Rattle.qq_cluster.proofs.WaitsThere.{own-node}
+use Rattle.qq_cluster.proofs.Walks.{from-range}
 use Rattle.qq_opening.proofs.FoundLanes.{lanes-long}
 
 -- ---- a member is down where the definition has it so

@@ -4,11 +4,11 @@ use Rattle.std.proofs.lemmas.Bool.{cases_lt}
 use Rattle.qq_disk.specs.Facts.{DiskFacts}
 use Rattle.qq_node_log.specs.declared.node_log.NodeLog.{NodeLog}
 use Rattle.qq_node_log.specs.declared.node_log.NodeLog.TheVariants.{Closed}
-use Rattle.qq_setup.specs.declared.queue_row.QueueRow.{QueueRow}
-use Rattle.qq_nodes.specs.Nodes.{EachHasLog}
-use Rattle.qq_nodes.specs.Setting.{AreNew}
-use Rattle.qq_nodes.specs.declared.nodes.Nodes.{Nodes as Held}
-use Rattle.qq_nodes.proofs.Begun.{item-at}
+use Rattle.qq_route.specs.declared.queue_row.QueueRow.{QueueRow}
+use Rattle.qq_cluster.specs.Nodes.{EachHasLog}
+use Rattle.qq_cluster.specs.Setting.{AreNew}
+use Rattle.qq_cluster.specs.declared.nodes.Nodes.{Nodes as Held}
+use Rattle.qq_cluster.proofs.Begun.{item-at}
 use Rattle.qq_opening.specs.Opened.{AreOpened}
 
 new-logs : {D : Type 0} {facts : DiskFacts D} (rows : List QueueRow) (old : Held D)

@@ -14,7 +14,7 @@ use Rattle.qq_raft_protocol.specs.Facts.{In}
 use Rattle.qq_recover.specs.Recovered.{IsLaneFor}
 use Rattle.qq_recover.specs.State.{IsPlainLaneOf}
 use Rattle.qq_wal_chain.specs.Lanes.{Lanes}
-use Rattle.qq_cluster_queue.specs.declared.cluster_queue.ClusterQueue.{ClusterQueue}
+use Rattle.qq_queue.specs.declared.cluster_queue.ClusterQueue.{ClusterQueue}
 use Rattle.qq_opening.specs.Opened.{IsOfOpsState}
 use Rattle.qq_opening.specs.Opening.{told_of}
 use Rattle.qq_opening.specs.Taking.{AllChange, IsOfOps, TakesUpOne, lane_base, lane_state, pair_index}

@@ -1,5 +1,5 @@
 -- A node that is down was recovered, but one of its members may not go on with what was found.
-use Rattle.qq_cluster.specs.Outcome.{Outcome}
+use Rattle.qq_cluster_model.specs.Outcome.{Outcome}
 use Rattle.std.proofs.Common.{◌≡◌, ◌-◌, ℕ, suc, Bool, true, false, ◌||◌, List, [], ◌∷◌, ◌++◌, Option, Some, refl, sym, ap, ◌∙◌, subst, inl, inr, arith}
 use Rattle.std.specs.Global.{Vec}
 use Rattle.std.specs.Prelude.{Contains, IsTrue, Ok, nat_eq, slice_get}
@@ -18,33 +18,33 @@ use Rattle.qq_raft_model.specs.Group.{has_node}
 use Rattle.qq_raft_protocol.specs.Facts.{In}
 use Rattle.qq_recover.specs.Reading.{lanes_read, shown}
 use Rattle.qq_wal_chain.specs.Lanes.{Lanes}
-use Rattle.qq_cluster.specs.Cluster.{Cluster, Setup, members}
-use Rattle.qq_cluster.specs.Rules.{IsRestart}
+use Rattle.qq_cluster_model.specs.Cluster.{Cluster, Setup, members}
+use Rattle.qq_cluster_model.specs.Rules.{IsRestart}
 use Rattle.qq_cluster_laws.specs.Linked.{IsLinked, IsReached, lot_of, parts_at}
 use Rattle.qq_cluster_laws.specs.Serves.{GivesUp, Seen, seen_of}
 use Rattle.qq_cluster_laws.proofs.Links.{TakesUp as TakesUpAt, all-take_up}
 use Rattle.qq_cluster_laws.proofs.Traces.{broken-none}
-use Rattle.qq_cluster_queue.specs.Sessions.{standings}
-use Rattle.qq_cluster_queue.specs.declared.cluster_queue.ClusterQueue.{ClusterQueue}
+use Rattle.qq_queue.specs.Sessions.{standings}
+use Rattle.qq_queue.specs.declared.cluster_queue.ClusterQueue.{ClusterQueue}
 use Rattle.qq_recover.specs.declared.fault.RecoverFault.TheVariants as recover_faults
 use Rattle.qq_node_log.specs.Log.{disk_in}
 use Rattle.qq_node_log.specs.declared.node_log.NodeLog.TheVariants.{Open}
-use Rattle.qq_nodes.specs.Logs.{NodeTurns}
-use Rattle.qq_nodes.specs.Nodes.{IsNodeAt, IsNodeOf, IsQueueOf, Served, Stands, seen}
+use Rattle.qq_cluster.specs.Logs.{NodeTurns}
+use Rattle.qq_cluster.specs.Nodes.{IsNodeAt, IsNodeOf, IsQueueOf, Served, Stands, seen}
 use Rattle.qq_opening.specs.Restarting.{IsLostAt, IsOfMemory, IsRefused, MayTakeUp, Refuses, this_node}
 use Rattle.qq_opening.specs.Taking.{FindsLanes, IsLost, IsLostAmong, IsLostTo, IsTakeEachCaused, MayNotStep, Recovers, StaysDown, Steps, TakesUpOne, handed_of, index_of, lane_state, pair_index, pairs}
 use Rattle.qq_opening.specs.declared.taking.Handed.{Handed}
-use Rattle.qq_nodes.specs.declared.node.Node.{Node}
-use Rattle.qq_nodes.specs.declared.nodes.Nodes.{Nodes as Held}
+use Rattle.qq_cluster.specs.declared.node.Node.{Node}
+use Rattle.qq_cluster.specs.declared.nodes.Nodes.{Nodes as Held}
 use Rattle.qq_opening.specs.declared.restarting.RestartFault.{RestartFault}
 use Rattle.qq_opening.specs.declared.restarting.RestartFault.TheVariants as faults_of
 use Rattle.qq_opening.proofs.Changing.{AreApart, all-others}
 use Rattle.qq_opening.proofs.FoundEach.{IsAtPlace, at-place, known-seat, own-apart, own-changes, queue-of, to-lot}
 use Rattle.qq_opening.proofs.FoundLanes.{HasLane, HasNone, come-to_none, lane-none, lane-op, lane-told, pair-has}
 use Rattle.qq_opening.proofs.OwnDisk.{disk-gives_up, seen-before}
-use Rattle.qq_nodes.proofs.Logged.{logs-with}
-use Rattle.qq_nodes.proofs.OwnStands.{node-was, set-here}
-use Rattle.qq_nodes.proofs.Stands.{same-logs, stands-logs}
+use Rattle.qq_cluster.proofs.Logged.{logs-with}
+use Rattle.qq_cluster.proofs.OwnStands.{node-was, set-here}
+use Rattle.qq_cluster.proofs.Stands.{same-logs, stands-logs}
 use Rattle.qq_opening.proofs.Restarted.{found-lanes, read-then, restarted, same-disk, settles, some-same}
 use Rattle.qq_opening.proofs.Unrecovered.{not-recovered, not-restarted, restarts-none}
 

@@ -1,6 +1,6 @@
 -- Nodes that weren't opened yet, and what may be done with the next of them.
-use Rattle.std.proofs.Common.{◌≡◌, ◌<◌, ◌≤◌, ◌+◌, ◌-◌, ℕ, Bool, true, List, [], ◌∷◌, Some, None, get_or, length, refl, sym, ap, ◌∙◌, subst, inl, inr, arith}
-use Rattle.std.specs.Prelude.{All, nat_eq, slice_get}
+use Rattle.std.proofs.Common.{◌≡◌, ◌<◌, ◌≤◌, ◌+◌, ◌-◌, ℕ, true, List, [], ◌∷◌, Some, None, get_or, length, refl, sym, ap, ◌∙◌, subst, inl, inr, arith}
+use Rattle.std.specs.Prelude.{All, slice_get}
 use Rattle.std.specs.List.{AllByRecursion}
 use Rattle.std.proofs.lemmas.List.Elements.{All-from_all_within}
 use Rattle.std.proofs.lemmas.Option.{get_or_from_slice_get, slice_get-get_or, slice_get_within}
@@ -13,16 +13,16 @@ use Rattle.qq_node_log.specs.Found.{AreDistinct}
 use Rattle.qq_node_log.specs.declared.node_log.NodeLog.TheVariants.{Closed}
 use Rattle.qq_raft_model.specs.Group.{has_node}
 use Rattle.qq_raft_protocol.specs.Facts.{In}
-use Rattle.qq_setup.specs.declared.queue_row.QueueRow.{QueueRow}
-use Rattle.qq_cluster.specs.Cluster.{Setup, new_cluster}
+use Rattle.qq_route.specs.declared.queue_row.QueueRow.{QueueRow}
+use Rattle.qq_cluster_model.specs.Cluster.{Setup, new_cluster}
 use Rattle.qq_cluster_laws.specs.Linked.{lot_of}
-use Rattle.qq_cluster_queue.specs.Members.{AreSound}
-use Rattle.qq_cluster_queue.specs.declared.cluster_queue.ClusterQueue.{ClusterQueue}
-use Rattle.qq_nodes.specs.Nodes.{IsNodeAt, Stands}
-use Rattle.qq_nodes.specs.Setting.{AreNew, IsNewNode, IsQueueFor, IsSetupOver, IsWhole, ids_on, is_among}
-use Rattle.qq_nodes.specs.declared.node.Node.{Node}
-use Rattle.qq_nodes.specs.declared.nodes.Nodes.{Nodes as Held}
-use Rattle.qq_nodes.proofs.Begun.{ids-are, item-at, new-stands}
+use Rattle.qq_queue.specs.Members.{AreSound}
+use Rattle.qq_queue.specs.declared.cluster_queue.ClusterQueue.{ClusterQueue}
+use Rattle.qq_cluster.specs.Nodes.{IsNodeAt, Stands}
+use Rattle.qq_cluster.specs.Setting.{AreNew, IsNewNode, IsQueueFor, IsSetupOver, IsWhole, ids_on, is_among}
+use Rattle.qq_cluster.specs.declared.node.Node.{Node}
+use Rattle.qq_cluster.specs.declared.nodes.Nodes.{Nodes as Held}
+use Rattle.qq_cluster.proofs.Begun.{ids-are, item-at, new-stands}
 use Rattle.qq_opening.specs.Opened.{AreOpened, IsOpenedQueue}
 use Rattle.qq_opening.specs.Taking.{MayStep, MayTakeAt, MayTakeEach, index_of}
 use Rattle.qq_opening.proofs.FoundEach.{own-distinct, own-low}
@@ -111,13 +111,13 @@ module _ {D : Type 0} {facts : DiskFacts D} (rows : List QueueRow) (old : Held D
     queue_count = refl;
     left = λ i le. refl;
     opened = λ i own lt here. absurd (omega (arith, lt));
-    queues = λ i row d here there. queue-none row (nat_eq i 0) d (new.queues.each i row d here there);
+    queues = λ i row d here there. queue-none row d (new.queues.each i row d here there);
     disks = λ k low high. absurd (omega (arith, low, high));
   }
     where
-      queue-none : (row : QueueRow) (first : Bool) (d : ClusterQueue) → IsQueueFor row first d
+      queue-none : (row : QueueRow) (d : ClusterQueue) → IsQueueFor row d
           → IsOpenedQueue row (λ k. None) 0 d
-      queue-none row first d own = record {
+      queue-none row d own = record {
         sound = own.sound;
         args_is = own.args_is;
         nodes_is = own.nodes_is;

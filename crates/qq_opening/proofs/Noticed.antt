@@ -8,11 +8,11 @@ use Rattle.qq_group.specs.declared.seat.Seat.{Seat}
 use Rattle.qq_log.specs.Log.{LogState}
 use Rattle.qq_log.specs.declared.op.Op.{Op}
 use Rattle.qq_raft_model.specs.Group.{Seat as SeatState}
-use Rattle.qq_raft_queues.specs.declared.machine_queue.MachineQueue.{MachineQueue}
-use Rattle.qq_cluster_queue.specs.Agreeing.{BeginsWith}
-use Rattle.qq_cluster_queue.specs.Members.{Member, own_log}
-use Rattle.qq_cluster_queue.specs.declared.cluster_queue.ClusterQueue.{ClusterQueue}
-use Rattle.qq_nodes.proofs.Items.{item-here}
+use Rattle.qq_queue.specs.declared.machine_queue.MachineQueue.{MachineQueue}
+use Rattle.qq_queue.specs.Agreeing.{BeginsWith}
+use Rattle.qq_queue.specs.Members.{Member, own_log}
+use Rattle.qq_queue.specs.declared.cluster_queue.ClusterQueue.{ClusterQueue}
+use Rattle.qq_cluster.proofs.Items.{item-here}
 
 seat-noticed : (state : SeatState) (o : Option (Seat MachineQueue LogState)) → IsSeat own_log state o
     → is_some (server_by o) ≡ true → noticed_at o ≡ state.noticed

@@ -1,15 +1,15 @@
 -- What follows the restarts of an opening.
-use Rattle.qq_cluster.specs.Outcome.{Outcome}
+use Rattle.qq_cluster_model.specs.Outcome.{Outcome}
 use Rattle.std.proofs.Common.{Bool, true, false, List, ◌++◌, refl}
 use Rattle.qq_base.specs.declared.memory.Memory.{Memory}
 use Rattle.qq_disk.specs.Facts.{DiskFacts}
-use Rattle.qq_cluster.specs.Cluster.{Cluster, ClusterEvent, Setup, cluster_after}
-use Rattle.qq_cluster.specs.Rules.{ForEach, IsFirstTick, IsPump, Then, most_rounds}
-use Rattle.qq_nodes.specs.Nodes.{GaveUp, Served}
-use Rattle.qq_nodes.specs.declared.nodes.Nodes.{Nodes as Held}
-use Rattle.qq_nodes.proofs.Stands.{gave_up-first, gave_up-second, served-then}
-use Rattle.qq_nodes.proofs.Ticked.{total-first_tick}
-use Rattle.qq_nodes.proofs.Total.{Total, total-each, total-pumps, total-then}
+use Rattle.qq_cluster_model.specs.Cluster.{Cluster, ClusterEvent, Setup, cluster_after}
+use Rattle.qq_cluster_model.specs.Rules.{ForEach, IsFirstTick, IsPump, Then, most_rounds}
+use Rattle.qq_cluster.specs.Nodes.{GaveUp, Served}
+use Rattle.qq_cluster.specs.declared.nodes.Nodes.{Nodes as Held}
+use Rattle.qq_cluster.proofs.Stands.{gave_up-first, gave_up-second, served-then}
+use Rattle.qq_cluster.proofs.Ticked.{total-first_tick}
+use Rattle.qq_cluster.proofs.Total.{Total, total-each, total-pumps, total-then}
 use Rattle.qq_opening.specs.Restarting.{IsOpenedTo, RestartEachTo}
 use Rattle.qq_opening.proofs.RestartRules.{fails-first, findings-none}
 

@@ -1,6 +1,6 @@
 -- All nodes are opened: the logs that were read support an audit, or those of some queue support none.
-use Rattle.qq_cluster.specs.Outcome.{Outcome}
-use Rattle.qq_nodes.proofs.Outcomes.{outcome_after}
+use Rattle.qq_cluster_model.specs.Outcome.{Outcome}
+use Rattle.qq_cluster.proofs.Outcomes.{outcome_after}
 use Rattle.std.proofs.Common.{◌≡◌, ◌⊎◌, ◌<◌, ◌≤◌, ◌+◌, ℕ, zero, suc, Bool, true, false, List, ◌++◌, Option, Some, None, length, refl, sym, ap, ◌∙◌, subst, inl, inr, arith, append_assoc}
 use Rattle.std.specs.Prelude.{All, is_some, slice_get}
 use Rattle.std.specs.List.{range_with_len}
@@ -14,20 +14,20 @@ use Rattle.qq_disk.specs.Facts.{DiskFacts}
 use Rattle.qq_raft_model.specs.Group.{new_group}
 use Rattle.qq_raft_model.specs.Promises.{AreDistinct}
 use Rattle.qq_raft_protocol.specs.Facts.{In}
-use Rattle.qq_setup.specs.declared.queue_row.QueueRow.{QueueRow}
+use Rattle.qq_route.specs.declared.queue_row.QueueRow.{QueueRow}
 use Rattle.qq_wal_chain.specs.Lanes.{Lanes}
-use Rattle.qq_cluster.specs.Cluster.{Cluster, ClusterEvent, Setup, cluster_after, new_cluster}
-use Rattle.qq_cluster.specs.ClusterLaws.{HasGroups}
-use Rattle.qq_cluster.specs.Laws.{IsBegun}
-use Rattle.qq_cluster.specs.Rules.{ForEach, IsOpening, IsRestart}
+use Rattle.qq_cluster_model.specs.Cluster.{Cluster, ClusterEvent, Setup, cluster_after, new_cluster}
+use Rattle.qq_cluster_model.specs.ClusterLaws.{HasGroups}
+use Rattle.qq_cluster_model.specs.Laws.{IsBegun}
+use Rattle.qq_cluster_model.specs.Rules.{ForEach, IsOpening, IsRestart}
 use Rattle.qq_cluster_laws.specs.Linked.{IsReached}
 use Rattle.qq_cluster_laws.specs.Serves.{GivesUp, Serves}
 use Rattle.qq_cluster_laws.proofs.Restarts.{first-stays}
 use Rattle.qq_cluster_laws.proofs.Serves.{gives_up-behind, serves-both}
-use Rattle.qq_nodes.specs.Nodes.{Begins, CanServe, EndsAt, GaveUp, HaveLogs, Served, Stands, seen}
-use Rattle.qq_nodes.specs.Setting.{AreNew, ids_on}
-use Rattle.qq_nodes.specs.declared.nodes.Nodes.{Nodes as Held}
-use Rattle.qq_nodes.proofs.Stands.{serves-from}
+use Rattle.qq_cluster.specs.Nodes.{Begins, CanServe, EndsAt, GaveUp, HaveLogs, Served, Stands, seen}
+use Rattle.qq_cluster.specs.Setting.{AreNew, ids_on}
+use Rattle.qq_cluster.specs.declared.nodes.Nodes.{Nodes as Held}
+use Rattle.qq_cluster.proofs.Stands.{serves-from}
 use Rattle.qq_opening.specs.Opened.{AreOpened, Agrees, OpenedServes, OpenedTo, RestartedTo, WasRead}
 use Rattle.qq_opening.specs.Opening.{AreLogsOf, AreReadLogs, HaveRestarted, HoldLogs, IsOpenCaused, IsReadAs, IsSetupWith, Logs, MayNotOpen, OpensOver, OpensTo}
 use Rattle.qq_opening.specs.Restarting.{IsOpenedTo, RestartEachTo}

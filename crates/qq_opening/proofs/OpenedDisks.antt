@@ -21,17 +21,17 @@ use Rattle.qq_raft_model.specs.Group.{Group, Seat, has_node}
 use Rattle.qq_raft_model.specs.Promises.{IsPlain}
 use Rattle.qq_raft_protocol.specs.Facts.{In}
 use Rattle.qq_recover.specs.Reading.{lanes_read, shown}
-use Rattle.qq_setup.specs.declared.queue_row.QueueRow.{QueueRow}
+use Rattle.qq_route.specs.declared.queue_row.QueueRow.{QueueRow}
 use Rattle.qq_wal_chain.specs.Lanes.{Lanes}
-use Rattle.qq_cluster.specs.Cluster.{Setup, members, new_cluster}
-use Rattle.qq_cluster.specs.ClusterLaws.{HasGroups}
-use Rattle.qq_cluster.specs.Laws.{IsBegun}
+use Rattle.qq_cluster_model.specs.Cluster.{Setup, members, new_cluster}
+use Rattle.qq_cluster_model.specs.ClusterLaws.{HasGroups}
+use Rattle.qq_cluster_model.specs.Laws.{IsBegun}
 use Rattle.qq_cluster_laws.specs.Linked.{IsLinked, lot_of, parts_at}
 use Rattle.qq_cluster_laws.specs.Serves.{GivesUp, Seen}
-use Rattle.qq_nodes.specs.Nodes.{seen}
-use Rattle.qq_nodes.specs.Setting.{ids_on, is_among}
-use Rattle.qq_nodes.specs.declared.nodes.Nodes.{Nodes as Held}
-use Rattle.qq_nodes.proofs.Begun.{ids-are}
+use Rattle.qq_cluster.specs.Nodes.{seen}
+use Rattle.qq_cluster.specs.Setting.{ids_on, is_among}
+use Rattle.qq_cluster.specs.declared.nodes.Nodes.{Nodes as Held}
+use Rattle.qq_cluster.proofs.Begun.{ids-are}
 use Rattle.qq_opening.specs.Opened.{WasRead}
 use Rattle.qq_opening.specs.Opening.{AreReadLogs, IsSetupWith, Logs, seat_over, state_read}
 use Rattle.qq_opening.specs.Restarting.{AreLinked}

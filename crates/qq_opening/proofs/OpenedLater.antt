@@ -1,5 +1,5 @@
 -- All nodes are opened, and the logs of some queue support no audit.
-use Rattle.qq_cluster.specs.Outcome.{Outcome}
+use Rattle.qq_cluster_model.specs.Outcome.{Outcome}
 use Rattle.std.proofs.Common.{◌≡◌, ◌⊎◌, ◌<◌, ◌≤◌, ◌+◌, ◌-◌, ℕ, zero, suc, Bool, true, List, [], ◌∷◌, Option, Some, None, length, refl, sym, ap, ◌∙◌, subst, inl, inr, arith, append-nil}
 use Rattle.std.specs.Prelude.{Contains, is_some, slice_get}
 use Rattle.std.specs.List.{range_with_len}
@@ -16,17 +16,17 @@ use Rattle.qq_log.specs.declared.op.Op.{Op}
 use Rattle.qq_lots.proofs.Counts.{state-count}
 use Rattle.qq_lots.specs.Left.{state_in}
 use Rattle.qq_raft_protocol.specs.Facts.{In}
-use Rattle.qq_setup.specs.declared.queue_row.QueueRow.{QueueRow}
+use Rattle.qq_route.specs.declared.queue_row.QueueRow.{QueueRow}
 use Rattle.qq_wal_chain.specs.Lanes.{Lanes}
-use Rattle.qq_cluster.specs.Cluster.{Setup, new_cluster}
-use Rattle.qq_cluster.specs.ClusterLaws.{HasGroups}
-use Rattle.qq_cluster.specs.Laws.{IsBegun}
+use Rattle.qq_cluster_model.specs.Cluster.{Setup, new_cluster}
+use Rattle.qq_cluster_model.specs.ClusterLaws.{HasGroups}
+use Rattle.qq_cluster_model.specs.Laws.{IsBegun}
 use Rattle.qq_cluster_laws.specs.Serves.{Seen}
-use Rattle.qq_cluster_queue.specs.Agreeing.{BeginsWith}
-use Rattle.qq_cluster_queue.specs.declared.cluster_queue.ClusterQueue.{ClusterQueue}
-use Rattle.qq_nodes.specs.Nodes.{seen}
-use Rattle.qq_nodes.specs.Setting.{AreNew, ids_on, is_among}
-use Rattle.qq_nodes.specs.declared.nodes.Nodes.{Nodes as Held}
+use Rattle.qq_queue.specs.Agreeing.{BeginsWith}
+use Rattle.qq_queue.specs.declared.cluster_queue.ClusterQueue.{ClusterQueue}
+use Rattle.qq_cluster.specs.Nodes.{seen}
+use Rattle.qq_cluster.specs.Setting.{AreNew, ids_on, is_among}
+use Rattle.qq_cluster.specs.declared.nodes.Nodes.{Nodes as Held}
 use Rattle.qq_opening.specs.Opened.{AreOpened, Disagrees, IsLostAt, IsOpenedNode, IsOpenedQueue, IsUpWith, OpenedTo, TellsLost}
 use Rattle.qq_opening.specs.Opening.{AreReadLogs, GivesUpOver, IsLostOver, IsOpenCaused, IsSetupWith, Logs, MayNotOpen, state_read, told_of}
 use Rattle.qq_opening.specs.Restarting.{AreLinked, IsOfMemory}

@@ -1,5 +1,5 @@
 -- Nodes are opened, one after the other.
-use Rattle.qq_cluster.specs.Outcome.{Outcome}
+use Rattle.qq_cluster_model.specs.Outcome.{Outcome}
 use Rattle.std.proofs.Common.{◌≡◌, ◌<◌, ◌+◌, ◌-◌, ℕ, Bool, true, false, ◌||◌, List, Option, Some, None, length, refl, sym, ap, ◌∙◌, subst, inl, inr, arith}
 use Rattle.std.specs.Prelude.{slice_get}
 use Rattle.std.specs.List.{range_with_len}
@@ -9,17 +9,17 @@ use Rattle.qq_base.specs.Fronts.{put}
 use Rattle.qq_base.specs.declared.ids.NodeId.{NodeId}
 use Rattle.qq_disk.specs.Facts.{DiskFacts}
 use Rattle.qq_recover.specs.declared.fault.RecoverFault.TheVariants as recover_faults
-use Rattle.qq_setup.specs.declared.queue_row.QueueRow.{QueueRow}
+use Rattle.qq_route.specs.declared.queue_row.QueueRow.{QueueRow}
 use Rattle.qq_wal_chain.specs.Lanes.{Lanes}
-use Rattle.qq_cluster.specs.Cluster.{Setup, new_cluster}
-use Rattle.qq_cluster.specs.ClusterLaws.{HasGroups}
+use Rattle.qq_cluster_model.specs.Cluster.{Setup, new_cluster}
+use Rattle.qq_cluster_model.specs.ClusterLaws.{HasGroups}
 use Rattle.qq_cluster_laws.proofs.Serves.{serves-nothing}
-use Rattle.qq_nodes.specs.Nodes.{Stands, seen}
-use Rattle.qq_nodes.specs.Setting.{AreNew}
-use Rattle.qq_nodes.specs.declared.node.Node.{Node}
-use Rattle.qq_nodes.specs.declared.nodes.Nodes.{Nodes as Held}
-use Rattle.qq_nodes.proofs.Begun.{new-stands}
-use Rattle.qq_nodes.proofs.OwnStands.{set-here}
+use Rattle.qq_cluster.specs.Nodes.{Stands, seen}
+use Rattle.qq_cluster.specs.Setting.{AreNew}
+use Rattle.qq_cluster.specs.declared.node.Node.{Node}
+use Rattle.qq_cluster.specs.declared.nodes.Nodes.{Nodes as Held}
+use Rattle.qq_cluster.proofs.Begun.{new-stands}
+use Rattle.qq_cluster.proofs.OwnStands.{set-here}
 use Rattle.qq_opening.specs.Opened.{AreOpened, IsMarked, OpenedServes, OpenedTo, RestartedTo}
 use Rattle.qq_opening.specs.Opening.{AreLogsOf, AreReadLogs, IsSetupWith, Logs, state_read}
 use Rattle.qq_opening.specs.Taking.{FindsNone, MayStep, Steps, StepsUp}

@@ -21,18 +21,18 @@ use Rattle.qq_node_log.specs.Log.{disk_in}
 use Rattle.qq_node_log.specs.declared.node_log.NodeLog.TheVariants.{Open}
 use Rattle.qq_raft_protocol.specs.Facts.{In}
 use Rattle.qq_recover.specs.Reading.{lanes_read, shown}
-use Rattle.qq_setup.specs.declared.queue_row.QueueRow.{QueueRow}
+use Rattle.qq_route.specs.declared.queue_row.QueueRow.{QueueRow}
 use Rattle.qq_wal_chain.specs.Lanes.{Lanes}
-use Rattle.qq_cluster.specs.Cluster.{Setup, new_cluster}
-use Rattle.qq_cluster.specs.ClusterLaws.{HasGroups}
-use Rattle.qq_cluster.specs.Laws.{IsBegun}
+use Rattle.qq_cluster_model.specs.Cluster.{Setup, new_cluster}
+use Rattle.qq_cluster_model.specs.ClusterLaws.{HasGroups}
+use Rattle.qq_cluster_model.specs.Laws.{IsBegun}
 use Rattle.qq_cluster_laws.specs.Serves.{Seen, seen_of}
-use Rattle.qq_nodes.specs.Nodes.{seen}
-use Rattle.qq_nodes.specs.Setting.{AreNew, ids_on, is_among}
-use Rattle.qq_nodes.specs.declared.node.Node.{Node}
-use Rattle.qq_nodes.specs.declared.nodes.Nodes.{Nodes as Held}
-use Rattle.qq_nodes.proofs.Logged.{each-with}
-use Rattle.qq_nodes.proofs.OwnStands.{seen-others, seen-own, set-here}
+use Rattle.qq_cluster.specs.Nodes.{seen}
+use Rattle.qq_cluster.specs.Setting.{AreNew, ids_on, is_among}
+use Rattle.qq_cluster.specs.declared.node.Node.{Node}
+use Rattle.qq_cluster.specs.declared.nodes.Nodes.{Nodes as Held}
+use Rattle.qq_cluster.proofs.Logged.{each-with}
+use Rattle.qq_cluster.proofs.OwnStands.{seen-others, seen-own, set-here}
 use Rattle.qq_opening.specs.Opened.{AreOpened}
 use Rattle.qq_opening.specs.Opening.{AreReadLogs, GivesUpOver, HasRead, IsLostOver, IsOpenCaused, IsReadAs, IsSetupWith, Logs, MayNotOpen, state_read, told_of}
 use Rattle.qq_opening.specs.Restarting.{AreLinked, IsOfMemory}

@@ -9,16 +9,16 @@ use Rattle.qq_base.specs.declared.ids.QueueId.{QueueId}
 use Rattle.qq_disk.specs.Facts.{DiskFacts}
 use Rattle.qq_group.specs.Group.{server_at}
 use Rattle.qq_log.specs.Stable.{stable}
-use Rattle.qq_setup.specs.declared.queue_row.QueueRow.{QueueRow}
+use Rattle.qq_route.specs.declared.queue_row.QueueRow.{QueueRow}
 use Rattle.qq_wal_chain.specs.Lanes.{Lanes}
 use Rattle.qq_cluster_laws.specs.Serves.{Seen}
-use Rattle.qq_cluster_queue.specs.declared.cluster_queue.ClusterQueue.{ClusterQueue}
-use Rattle.qq_nodes.specs.Nodes.{node_at, seen, seen_in}
-use Rattle.qq_nodes.specs.Setting.{AreNew, ids_on, is_among}
-use Rattle.qq_nodes.specs.declared.node.Node.{Node}
-use Rattle.qq_nodes.specs.declared.nodes.Nodes.{Nodes as Held}
-use Rattle.qq_nodes.proofs.OwnStands.{seen-others, set-here}
-use Rattle.qq_nodes.proofs.Turned.{set-other}
+use Rattle.qq_queue.specs.declared.cluster_queue.ClusterQueue.{ClusterQueue}
+use Rattle.qq_cluster.specs.Nodes.{node_at, seen, seen_in}
+use Rattle.qq_cluster.specs.Setting.{AreNew, ids_on, is_among}
+use Rattle.qq_cluster.specs.declared.node.Node.{Node}
+use Rattle.qq_cluster.specs.declared.nodes.Nodes.{Nodes as Held}
+use Rattle.qq_cluster.proofs.OwnStands.{seen-others, set-here}
+use Rattle.qq_cluster.proofs.Turned.{set-other}
 use Rattle.qq_opening.specs.Opened.{AreOpened, IsOpenedNode, IsOpenedQueue, IsUpWith, WasRead}
 use Rattle.qq_opening.specs.Opening.{state_read}
 use Rattle.qq_opening.proofs.Changing.{set-long}

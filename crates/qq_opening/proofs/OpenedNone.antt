@@ -1,5 +1,5 @@
 -- A node's log isn't recovered as it is opened, after others were.
-use Rattle.qq_nodes.proofs.Outcomes.{no_outcome}
+use Rattle.qq_cluster.proofs.Outcomes.{no_outcome}
 use Rattle.std.proofs.Common.{◌≡◌, ◌≢◌, ◌<◌, ◌+◌, ◌-◌, ℕ, true, List, [], ◌∷◌, ◌++◌, Some, length, refl, sym, ap, ◌∙◌, subst, inl, inr, arith}
 use Rattle.std.specs.Prelude.{Err, IsTrue, slice_get}
 use Rattle.std.specs.List.{range_with_len}
@@ -17,21 +17,21 @@ use Rattle.qq_recover.specs.Reading.{lanes_read, shown}
 use Rattle.qq_recover.specs.Recovered.{IsNoRefusal}
 use Rattle.qq_recover.specs.declared.fault.RecoverFault.{RecoverFault}
 use Rattle.qq_recover.specs.declared.fault.RecoverFault.TheVariants as recover_faults
-use Rattle.qq_setup.specs.declared.queue_row.QueueRow.{QueueRow}
+use Rattle.qq_route.specs.declared.queue_row.QueueRow.{QueueRow}
 use Rattle.qq_wal_chain.specs.Lanes.{Lanes}
-use Rattle.qq_cluster.specs.Cluster.{Setup, new_cluster}
-use Rattle.qq_cluster.specs.ClusterLaws.{HasGroups}
-use Rattle.qq_cluster.specs.Rules.{ForEach, IsOpening, IsRestart}
+use Rattle.qq_cluster_model.specs.Cluster.{Setup, new_cluster}
+use Rattle.qq_cluster_model.specs.ClusterLaws.{HasGroups}
+use Rattle.qq_cluster_model.specs.Rules.{ForEach, IsOpening, IsRestart}
 use Rattle.qq_cluster_laws.specs.Linked.{IsLinked, lot_of, parts_at}
 use Rattle.qq_cluster_laws.specs.Serves.{Seen, seen_of}
-use Rattle.qq_nodes.specs.Nodes.{Begins, EndsAt, Stands, seen}
-use Rattle.qq_nodes.specs.Setting.{AreNew, IsSetupOver, ids_on, is_among}
-use Rattle.qq_nodes.specs.declared.node.Node.{Node}
-use Rattle.qq_nodes.specs.declared.nodes.Nodes.{Nodes as Held}
-use Rattle.qq_nodes.proofs.Begun.{ids-are, new-stands}
-use Rattle.qq_nodes.proofs.Logged.{each-with}
-use Rattle.qq_nodes.proofs.OwnStands.{seen-others, seen-own, set-here}
-use Rattle.qq_nodes.proofs.Total.{Allowed, total-each, total-then}
+use Rattle.qq_cluster.specs.Nodes.{Begins, EndsAt, Stands, seen}
+use Rattle.qq_cluster.specs.Setting.{AreNew, IsSetupOver, ids_on, is_among}
+use Rattle.qq_cluster.specs.declared.node.Node.{Node}
+use Rattle.qq_cluster.specs.declared.nodes.Nodes.{Nodes as Held}
+use Rattle.qq_cluster.proofs.Begun.{ids-are, new-stands}
+use Rattle.qq_cluster.proofs.Logged.{each-with}
+use Rattle.qq_cluster.proofs.OwnStands.{seen-others, seen-own, set-here}
+use Rattle.qq_cluster.proofs.Total.{Allowed, total-each, total-then}
 use Rattle.qq_opening.specs.Opened.{AreOpened, IsOfOpsState, WasRead}
 use Rattle.qq_opening.specs.Opening.{GivesUpOver, HoldLogs, IsOpenCaused, IsReadAs, IsRefusedOver, IsSetupWith, Logs, MayNotOpen, StopsBefore}
 use Rattle.qq_opening.specs.Restarting.{AreLinked, IsOfMemory}

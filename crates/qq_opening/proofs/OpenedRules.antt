@@ -1,7 +1,7 @@
 -- One more node is opened, over logs that support an audit and are what was read: what the cluster is then.
-use Rattle.qq_cluster.specs.Outcome.{Outcome}
-use Rattle.qq_nodes.proofs.Outcomes.{line-outcome}
-use Rattle.qq_nodes.specs.Showing.{with_line}
+use Rattle.qq_cluster_model.specs.Outcome.{Outcome}
+use Rattle.qq_cluster.proofs.Outcomes.{line-outcome}
+use Rattle.qq_cluster.specs.Showing.{with_line}
 use Rattle.std.proofs.Common.{◌≡◌, ◌<◌, ◌+◌, ◌-◌, ℕ, zero, suc, Bool, true, false, not, ◌&&◌, ◌||◌, List, [], ◌∷◌, ◌++◌, Option, Some, None, length, refl, sym, ap, ◌∙◌, subst, arith}
 use Rattle.std.specs.Fmt.{decimal}
 use Rattle.std.specs.Global.{Vec}
@@ -21,28 +21,28 @@ use Rattle.qq_node_log.specs.declared.node_log.NodeLog.TheVariants.{Closed}
 use Rattle.qq_raft_model.specs.Group.{Seat}
 use Rattle.qq_raft_protocol.specs.Facts.{In}
 use Rattle.qq_recover.specs.declared.fault.RecoverFault.TheVariants as recover_faults
-use Rattle.qq_setup.specs.declared.queue_row.QueueRow.{QueueRow}
+use Rattle.qq_route.specs.declared.queue_row.QueueRow.{QueueRow}
 use Rattle.qq_wal_chain.specs.Lanes.{Lanes}
-use Rattle.qq_cluster.specs.Cluster.{Cluster, ClusterEvent, Fails, Setup, cluster_after, cluster_happens, new_cluster}
-use Rattle.qq_cluster.specs.ClusterLaws.{HasGroups}
-use Rattle.qq_cluster.specs.Rules.{IsRestart}
+use Rattle.qq_cluster_model.specs.Cluster.{Cluster, ClusterEvent, Fails, Setup, cluster_after, cluster_happens, new_cluster}
+use Rattle.qq_cluster_model.specs.ClusterLaws.{HasGroups}
+use Rattle.qq_cluster_model.specs.Rules.{IsRestart}
 use Rattle.qq_cluster_laws.specs.Linked.{IsReached, lot_of, part_at, parts_at}
 use Rattle.qq_cluster_laws.specs.Restarts.{first_restart}
 use Rattle.qq_cluster_laws.specs.Serves.{Serves}
 use Rattle.qq_cluster_laws.proofs.Calls.{failed-traced}
 use Rattle.qq_cluster_laws.proofs.Reached.{counts-at}
 use Rattle.qq_cluster_laws.proofs.Serves.{serves-both}
-use Rattle.qq_cluster_queue.specs.Sessions.{standings}
-use Rattle.qq_cluster_queue.specs.declared.cluster_queue.ClusterQueue.{ClusterQueue}
-use Rattle.qq_nodes.specs.Logs.{NodeTurns}
-use Rattle.qq_nodes.specs.Nodes.{IsNodeAt, IsNodeOf, Stands, seen}
-use Rattle.qq_nodes.specs.Setting.{AreNew, ids_on, is_among}
-use Rattle.qq_nodes.specs.declared.node.Node.{Node}
-use Rattle.qq_nodes.specs.declared.nodes.Nodes.{Nodes as Held}
-use Rattle.qq_nodes.proofs.Begun.{ids-are}
-use Rattle.qq_nodes.proofs.OwnStands.{QueuesOf, node-was, set-here, stands-own}
-use Rattle.qq_nodes.proofs.Owned.{own-fail}
-use Rattle.qq_nodes.proofs.Quiet.{quiet-stopped}
+use Rattle.qq_queue.specs.Sessions.{standings}
+use Rattle.qq_queue.specs.declared.cluster_queue.ClusterQueue.{ClusterQueue}
+use Rattle.qq_cluster.specs.Logs.{NodeTurns}
+use Rattle.qq_cluster.specs.Nodes.{IsNodeAt, IsNodeOf, Stands, seen}
+use Rattle.qq_cluster.specs.Setting.{AreNew, ids_on, is_among}
+use Rattle.qq_cluster.specs.declared.node.Node.{Node}
+use Rattle.qq_cluster.specs.declared.nodes.Nodes.{Nodes as Held}
+use Rattle.qq_cluster.proofs.Begun.{ids-are}
+use Rattle.qq_cluster.proofs.OwnStands.{QueuesOf, node-was, set-here, stands-own}
+use Rattle.qq_cluster.proofs.Owned.{own-fail}
+use Rattle.qq_cluster.proofs.Quiet.{quiet-stopped}
 use Rattle.qq_opening.specs.Opened.{AreOpened, OpenedServes, RestartedTo}
 use Rattle.qq_opening.specs.Opening.{AreLogsOf, AreReadLogs, HaveRestarted, IsSetupWith, Logs, seat_over, state_read, told_of}
 use Rattle.qq_opening.specs.Taking.{FailsToRecover, FindsNone, IsAsFound, StepsUp, pairs}

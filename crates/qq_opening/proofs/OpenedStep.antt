@@ -20,16 +20,16 @@ use Rattle.qq_node_log.specs.declared.node_log.NodeLog.TheVariants.{Open, Closed
 use Rattle.qq_raft_protocol.specs.Facts.{In}
 use Rattle.qq_recover.specs.Reading.{lanes_read, shown}
 use Rattle.qq_recover.specs.declared.fault.RecoverFault.TheVariants as recover_faults
-use Rattle.qq_setup.specs.declared.queue_row.QueueRow.{QueueRow}
+use Rattle.qq_route.specs.declared.queue_row.QueueRow.{QueueRow}
 use Rattle.qq_wal_chain.specs.Lanes.{Lanes}
 use Rattle.qq_cluster_laws.specs.Serves.{Seen, seen_of}
-use Rattle.qq_cluster_queue.specs.declared.cluster_queue.ClusterQueue.{ClusterQueue}
-use Rattle.qq_nodes.specs.Logs.{NodeTurns}
-use Rattle.qq_nodes.specs.Nodes.{IsNodeAt, seen}
-use Rattle.qq_nodes.specs.Setting.{AreNew, ids_on, is_among}
-use Rattle.qq_nodes.specs.declared.node.Node.{Node}
-use Rattle.qq_nodes.specs.declared.nodes.Nodes.{Nodes as Held}
-use Rattle.qq_nodes.proofs.OwnStands.{seen-own, set-here, set-twice}
+use Rattle.qq_queue.specs.declared.cluster_queue.ClusterQueue.{ClusterQueue}
+use Rattle.qq_cluster.specs.Logs.{NodeTurns}
+use Rattle.qq_cluster.specs.Nodes.{IsNodeAt, seen}
+use Rattle.qq_cluster.specs.Setting.{AreNew, ids_on, is_among}
+use Rattle.qq_cluster.specs.declared.node.Node.{Node}
+use Rattle.qq_cluster.specs.declared.nodes.Nodes.{Nodes as Held}
+use Rattle.qq_cluster.proofs.OwnStands.{seen-own, set-here, set-twice}
 use Rattle.qq_opening.specs.Opened.{AreOpened, IsOfOpsState, IsOpenedNode, IsOpenedQueue, IsUpWith, WasRead}
 use Rattle.qq_opening.specs.Opening.{state_read, told_of}
 use Rattle.qq_opening.specs.Taking.{AllChange, FailsToRecover, FindsLanes, FindsNone, Recovers, StepsUp, TakesUpOne, lane_state, pair_index, pairs}

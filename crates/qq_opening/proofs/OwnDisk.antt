@@ -1,24 +1,24 @@
 -- Calls that change the disk of one node, whether it is up or down, by events of that node's log.
-use Rattle.qq_cluster.specs.Outcome.{Outcome}
-use Rattle.qq_nodes.proofs.Outcomes.{outcome_after}
+use Rattle.qq_cluster_model.specs.Outcome.{Outcome}
+use Rattle.qq_cluster.proofs.Outcomes.{outcome_after}
 use Rattle.std.proofs.Common.{◌≡◌, ◌≢◌, ◌<◌, ◌≤◌, ◌-◌, ℕ, true, List, Some, sym, ap, ◌∙◌, subst, arith}
 use Rattle.std.specs.Prelude.{IsTrue, slice_get, slice_set}
 use Rattle.qq_base.specs.Causes.{Rose}
 use Rattle.qq_disk.specs.Disk.{Disk, now}
 use Rattle.qq_disk.specs.Facts.{DiskFacts}
 use Rattle.qq_lots.specs.Lots.{ids_of}
-use Rattle.qq_cluster.specs.Cluster.{Cluster, ClusterEvent, Setup, cluster_after}
+use Rattle.qq_cluster_model.specs.Cluster.{Cluster, ClusterEvent, Setup, cluster_after}
 use Rattle.qq_cluster_laws.specs.Linked.{IsLinked, lot_of}
 use Rattle.qq_cluster_laws.specs.Serves.{GivesUp, Seen, Serves, fails_at, seen_of}
 use Rattle.qq_cluster_laws.specs.Traced.{IsBrokenAt, IsTracedAt}
 use Rattle.qq_node_log.specs.Log.{disk_in}
 use Rattle.qq_node_log.specs.Steps.{SameDisk}
 use Rattle.qq_node_log.specs.declared.node_log.NodeLog.{NodeLog}
-use Rattle.qq_nodes.specs.Nodes.{Stands, seen}
-use Rattle.qq_nodes.specs.declared.node.Node.{Node}
-use Rattle.qq_nodes.specs.declared.nodes.Nodes.{Nodes as Held}
-use Rattle.qq_nodes.proofs.Owned.{AllOwn, gives_up-own, serves-own}
-use Rattle.qq_nodes.proofs.OwnStands.{seen-others, seen-own, set-here}
+use Rattle.qq_cluster.specs.Nodes.{Stands, seen}
+use Rattle.qq_cluster.specs.declared.node.Node.{Node}
+use Rattle.qq_cluster.specs.declared.nodes.Nodes.{Nodes as Held}
+use Rattle.qq_cluster.proofs.Owned.{AllOwn, gives_up-own, serves-own}
+use Rattle.qq_cluster.proofs.OwnStands.{seen-others, seen-own, set-here}
 
 module _ {D : Type 0} {facts : DiskFacts D} (setup : Setup) (c : Cluster) (k : ℕ) (events : List ClusterEvent)
     (old new : Held D) (x z : Node D) (before behind : NodeLog D) (own : AllOwn k events)

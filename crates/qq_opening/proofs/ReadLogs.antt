@@ -8,10 +8,10 @@ use Rattle.qq_log.specs.declared.op.Op.{Op}
 use Rattle.qq_lots.proofs.Counts.{state-count}
 use Rattle.qq_lots.specs.Left.{state_in}
 use Rattle.qq_raft_protocol.specs.Facts.{In}
-use Rattle.qq_setup.specs.declared.queue_row.QueueRow.{QueueRow}
+use Rattle.qq_route.specs.declared.queue_row.QueueRow.{QueueRow}
 use Rattle.qq_wal_chain.specs.Lanes.{Lanes}
 use Rattle.qq_cluster_laws.specs.Waiting.{IsChangeOf}
-use Rattle.qq_nodes.specs.Setting.{ids_on, is_among}
+use Rattle.qq_cluster.specs.Setting.{ids_on, is_among}
 use Rattle.qq_opening.specs.Opened.{IsOfOpsState}
 use Rattle.qq_opening.specs.Opening.{AreLogsOf, AreReadLogs, Logs, state_read}
 use Rattle.qq_opening.proofs.Canonical.{state-come, state-own, state_ops}

@@ -21,9 +21,9 @@ use Rattle.qq_recover.specs.declared.fault.RecoverFault.TheVariants.{Memory as O
 use Rattle.qq_recover.proofs.Causes.{greatest-listed}
 use Rattle.qq_wal.proofs.OnDisk.{above-listed}
 use Rattle.qq_opening.specs.Taking.{FailsToRecover, MayRecover, Recovers}
-use Rattle.qq_nodes.specs.Nodes.{InNumbers, NumberAt}
-use Rattle.qq_nodes.specs.declared.node.Node.{Node}
-use Rattle.qq_nodes.specs.declared.nodes.Nodes.{Nodes as Held}
+use Rattle.qq_cluster.specs.Nodes.{InNumbers, NumberAt}
+use Rattle.qq_cluster.specs.declared.node.Node.{Node}
+use Rattle.qq_cluster.specs.declared.nodes.Nodes.{Nodes as Held}
 
 -- a log that may be recovered is the node's
 pub may-read : {D : Type 0} (facts : DiskFacts D) (node : Node D) (log : NodeLog D) (queues : List QueueId) (disk : D)

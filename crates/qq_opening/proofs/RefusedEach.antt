@@ -1,5 +1,5 @@
 -- Nodes are restarted in order, and one of them isn't.
-use Rattle.qq_cluster.specs.Outcome.{Outcome}
+use Rattle.qq_cluster_model.specs.Outcome.{Outcome}
 use Rattle.std.proofs.Common.{◌≡◌, ◌<◌, ◌+◌, ℕ, List, [], ◌∷◌, drop, get_or, length, refl, sym, ap, ◌∙◌, subst, inr, arith}
 use Rattle.std.specs.Prelude.{Err, IsTrue}
 use Rattle.std.specs.List.{range_with_len}
@@ -11,25 +11,25 @@ use Rattle.qq_disk.specs.Disk.{now}
 use Rattle.qq_disk.specs.Facts.{DiskFacts}
 use Rattle.qq_raft_protocol.specs.Facts.{In}
 use Rattle.qq_recover.specs.declared.fault.RecoverFault.TheVariants as recover_faults
-use Rattle.qq_cluster.specs.Cluster.{Cluster, ClusterEvent, Fails, Setup, cluster_after}
-use Rattle.qq_cluster.specs.Rules.{ForEach, IsFound, IsNothing, IsRestart}
+use Rattle.qq_cluster_model.specs.Cluster.{Cluster, ClusterEvent, Fails, Setup, cluster_after}
+use Rattle.qq_cluster_model.specs.Rules.{ForEach, IsFound, IsNothing, IsRestart}
 use Rattle.qq_cluster_laws.specs.Linked.{IsLinked}
 use Rattle.qq_cluster_laws.specs.Serves.{Seen, Serves}
 use Rattle.qq_cluster_laws.proofs.Reached.{reached-after}
 use Rattle.qq_cluster_laws.proofs.Serves.{gives_up-behind}
 use Rattle.qq_cluster_laws.proofs.Traces.{trace-end}
-use Rattle.qq_nodes.specs.Nodes.{GaveUp, Served, Stands, seen}
+use Rattle.qq_cluster.specs.Nodes.{GaveUp, Served, Stands, seen}
 use Rattle.qq_opening.specs.Restarting.{AreLinked, IsLostAt, IsRefused, Refuses, all_nodes, lanes_at, this_node}
-use Rattle.qq_nodes.specs.declared.nodes.Nodes.{Nodes as Held}
+use Rattle.qq_cluster.specs.declared.nodes.Nodes.{Nodes as Held}
 use Rattle.qq_opening.specs.declared.restarting.RestartFault.{RestartFault}
 use Rattle.qq_opening.specs.declared.restarting.RestartFault.TheVariants.{Damaged, Version, Lost, Memory as OfMemory}
-use Rattle.qq_nodes.proofs.Pumping.{nodes-gave_up}
+use Rattle.qq_cluster.proofs.Pumping.{nodes-gave_up}
 use Rattle.qq_opening.specs.Opened.{FirstTo}
 use Rattle.qq_opening.proofs.RestartRules.{restarted-leads}
 use Rattle.qq_opening.proofs.RestartedEach.{behind}
-use Rattle.qq_nodes.proofs.Stands.{Ruling, served-weaker}
-use Rattle.qq_nodes.proofs.Total.{Total, total-if, total-nothing}
-use Rattle.qq_nodes.proofs.Walks.{all-get, in-range, place-at}
+use Rattle.qq_cluster.proofs.Stands.{Ruling, served-weaker}
+use Rattle.qq_cluster.proofs.Total.{Total, total-if, total-nothing}
+use Rattle.qq_cluster.proofs.Walks.{all-get, in-range, place-at}
 
 pub total-restart : (setup : Setup) (k : ℕ) → Total (IsRestart setup k)
 total-restart setup k c =

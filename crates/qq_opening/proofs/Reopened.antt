@@ -1,19 +1,19 @@
 -- Nodes are opened again.
-use Rattle.qq_cluster.specs.Outcome.{Outcome}
+use Rattle.qq_cluster_model.specs.Outcome.{Outcome}
 use Rattle.std.proofs.Common.{◌≡◌, ◌⊎◌, ◌≢◌, ◌<◌, ◌≤◌, ◌+◌, ℕ, zero, suc, Bool, true, false, ◌||◌, List, [], ◌∷◌, length, refl, sym, ap, ◌∙◌, subst, inl, inr, arith}
 use Rattle.std.specs.List.{list_any, range_with_len}
 use Rattle.std.proofs.lemmas.Bool.{cases_eq, false≢true, or_left, or_right, true≢false}
 use Rattle.std.proofs.lemmas.List.Folds.{list_any-append}
 use Rattle.qq_base.specs.declared.memory.Memory.{Memory}
 use Rattle.qq_disk.specs.Facts.{DiskFacts}
-use Rattle.qq_cluster.specs.Cluster.{Cluster, ClusterEvent, Setup, cluster_after}
-use Rattle.qq_cluster.specs.Rules.{ForEach, IsFound, IsNothing, IsOpening, IsRestart, if_so}
+use Rattle.qq_cluster_model.specs.Cluster.{Cluster, ClusterEvent, Setup, cluster_after}
+use Rattle.qq_cluster_model.specs.Rules.{ForEach, IsFound, IsNothing, IsOpening, IsRestart, if_so}
 use Rattle.qq_cluster_laws.specs.Serves.{fails_at, is_failure_at}
 use Rattle.qq_cluster_laws.proofs.Reached.{after-both}
 use Rattle.qq_raft_protocol.specs.Facts.{In}
-use Rattle.qq_nodes.specs.Nodes.{GaveUp, Served, Stands}
-use Rattle.qq_nodes.specs.declared.nodes.Nodes.{Nodes as Held}
-use Rattle.qq_nodes.proofs.Stands.{gave_up-first, gave_up-second, serves-means, served-then}
+use Rattle.qq_cluster.specs.Nodes.{GaveUp, Served, Stands}
+use Rattle.qq_cluster.specs.declared.nodes.Nodes.{Nodes as Held}
+use Rattle.qq_cluster.proofs.Stands.{gave_up-first, gave_up-second, serves-means, served-then}
 use Rattle.qq_opening.specs.Restarting.{IsReopening, IsRestartedTo, Refuses, all_nodes}
 use Rattle.qq_opening.specs.declared.restarting.RestartFault.{RestartFault}
 use Rattle.qq_opening.specs.declared.restarting.RestartFault.TheVariants.{Memory as OfMemory}

@@ -9,12 +9,12 @@ use Rattle.std.proofs.lemmas.List.FromFn.{get_or-range_with_len, length-range_wi
 use Rattle.qq_base.proofs.Puts.{put-other, put-same}
 use Rattle.qq_raft_protocol.specs.Facts.{In}
 use Rattle.qq_raft_protocol.proofs.Lists.{In-append}
-use Rattle.qq_cluster.specs.Cluster.{Cluster, ClusterEvent, Fails, Setup, cluster_after}
-use Rattle.qq_cluster.specs.ClusterLaws.{finding, findings}
-use Rattle.qq_cluster.specs.Rules.{ForEach, IsFound, IsNothing, IsRestart, if_so}
+use Rattle.qq_cluster_model.specs.Cluster.{Cluster, ClusterEvent, Fails, Setup, cluster_after}
+use Rattle.qq_cluster_model.specs.ClusterLaws.{finding, findings}
+use Rattle.qq_cluster_model.specs.Rules.{ForEach, IsFound, IsNothing, IsRestart, if_so}
 use Rattle.qq_cluster_laws.specs.Serves.{fails_at, is_failure_at}
 use Rattle.qq_cluster_laws.proofs.Reached.{after-both}
-use Rattle.qq_nodes.specs.Nodes.{LeadsIn, nodes_in}
+use Rattle.qq_cluster.specs.Nodes.{LeadsIn, nodes_in}
 use Rattle.qq_opening.specs.Opened.{FirstTo, Found, RestartedTo}
 use Rattle.qq_opening.specs.Restarting.{RestartEachTo}
 

@@ -1,6 +1,6 @@
 -- A node that was down is recovered, and its members go on with what was found.
-use Rattle.qq_cluster.specs.Outcome.{Outcome}
-use Rattle.qq_nodes.proofs.Outcomes.{same-outcome}
+use Rattle.qq_cluster_model.specs.Outcome.{Outcome}
+use Rattle.qq_cluster.proofs.Outcomes.{same-outcome}
 use Rattle.std.proofs.Common.{◌≡◌, ◌-◌, ℕ, Bool, true, false, List, [], ◌∷◌, Option, Some, length, refl, sym, ap, ◌∙◌, subst}
 use Rattle.std.specs.Prelude.{IsTrue, Ok, slice_get, slice_set}
 use Rattle.std.proofs.lemmas.Bool.{false≢true}
@@ -13,8 +13,8 @@ use Rattle.qq_lots.specs.Left.{ops_found}
 use Rattle.qq_lots.specs.Lots.{ids_of}
 use Rattle.qq_recover.specs.Reading.{lanes_read, shown}
 use Rattle.qq_raft_protocol.specs.Facts.{In}
-use Rattle.qq_cluster.specs.Cluster.{Cluster, ClusterEvent, FindsEach, Setup, cluster_happens}
-use Rattle.qq_cluster.specs.Rules.{IsFound, IsNothing, IsRestart}
+use Rattle.qq_cluster_model.specs.Cluster.{Cluster, ClusterEvent, FindsEach, Setup, cluster_happens}
+use Rattle.qq_cluster_model.specs.Rules.{IsFound, IsNothing, IsRestart}
 use Rattle.qq_cluster_laws.specs.Linked.{IsLinked, IsReached, lot_of, parts_at}
 use Rattle.qq_cluster_laws.specs.Serves.{Serves}
 use Rattle.qq_cluster_laws.specs.Traced.{IsTracedAt}
@@ -23,18 +23,18 @@ use Rattle.qq_node_log.specs.Found.{AreLanes, Settles}
 use Rattle.qq_node_log.specs.Log.{IsWhole, disk_in}
 use Rattle.qq_node_log.specs.Steps.{SameDisk}
 use Rattle.qq_node_log.specs.declared.node_log.NodeLog.TheVariants.{Open}
-use Rattle.qq_nodes.specs.Nodes.{IsNodeAt, IsNodeOf, Served, Stands, seen}
+use Rattle.qq_cluster.specs.Nodes.{IsNodeAt, IsNodeOf, Served, Stands, seen}
 use Rattle.qq_opening.specs.Taking.{AllChange, FindsLanes, GoesOn, IsHanded, Recovers, StepsUp, TakesUpOne, handed_of, pair_index, pairs}
 use Rattle.qq_opening.specs.declared.taking.Handed.{Handed}
-use Rattle.qq_nodes.specs.declared.node.Node.{Node}
-use Rattle.qq_nodes.specs.declared.nodes.Nodes.{Nodes as Held}
+use Rattle.qq_cluster.specs.declared.node.Node.{Node}
+use Rattle.qq_cluster.specs.declared.nodes.Nodes.{Nodes as Held}
 use Rattle.qq_opening.proofs.FoundEach.{found-rule, known-seat, node-after, queues-after, quiet-after}
 use Rattle.qq_opening.proofs.Changing.{all-long}
 use Rattle.qq_opening.proofs.OwnDisk.{disk-serves}
-use Rattle.qq_nodes.proofs.OwnStands.{node-was, set-here, set-twice, stands-own}
-use Rattle.qq_nodes.proofs.Owned.{AllOwn, IsOwn}
-use Rattle.qq_nodes.proofs.Pumping.{rule-if}
-use Rattle.qq_nodes.proofs.Stands.{served-nothing}
+use Rattle.qq_cluster.proofs.OwnStands.{node-was, set-here, set-twice, stands-own}
+use Rattle.qq_cluster.proofs.Owned.{AllOwn, IsOwn}
+use Rattle.qq_cluster.proofs.Pumping.{rule-if}
+use Rattle.qq_cluster.proofs.Stands.{served-nothing}
 
 own-find : (k : ℕ) (ops : ℕ → ℕ) → IsOwn k (FindsEach k ops)
 own-find k ops = record { seen = refl; calm = λ j. tt }

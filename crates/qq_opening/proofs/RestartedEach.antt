@@ -1,17 +1,17 @@
 -- Nodes are restarted, one after the other.
-use Rattle.qq_cluster.specs.Outcome.{Outcome}
+use Rattle.qq_cluster_model.specs.Outcome.{Outcome}
 use Rattle.std.proofs.Common.{◌≡◌, ◌<◌, ◌≤◌, ◌+◌, ℕ, List, [], ◌∷◌, ◌++◌, drop, length, take, refl, sym, ap, ◌∙◌, append_assoc}
 use Rattle.std.proofs.lemmas.List.{take-append-drop}
 use Rattle.qq_base.specs.declared.ids.NodeId.{NodeId}
 use Rattle.qq_disk.specs.Facts.{DiskFacts}
-use Rattle.qq_cluster.specs.Cluster.{Cluster, ClusterEvent, Setup, cluster_after}
-use Rattle.qq_cluster.specs.Rules.{ForEach, IsRestart}
+use Rattle.qq_cluster_model.specs.Cluster.{Cluster, ClusterEvent, Setup, cluster_after}
+use Rattle.qq_cluster_model.specs.Rules.{ForEach, IsRestart}
 use Rattle.qq_cluster_laws.specs.Serves.{Serves}
 use Rattle.qq_cluster_laws.proofs.Reached.{after-both, reached-after}
 use Rattle.qq_cluster_laws.proofs.Serves.{serves-both}
-use Rattle.qq_nodes.specs.Nodes.{Served, Stands, seen}
-use Rattle.qq_nodes.specs.declared.nodes.Nodes.{Nodes as Held}
-use Rattle.qq_nodes.proofs.Stands.{served-nothing, served-weaker}
+use Rattle.qq_cluster.specs.Nodes.{Served, Stands, seen}
+use Rattle.qq_cluster.specs.declared.nodes.Nodes.{Nodes as Held}
+use Rattle.qq_cluster.proofs.Stands.{served-nothing, served-weaker}
 use Rattle.qq_opening.specs.Restarting.{RestartsTo}
 use Rattle.qq_opening.specs.Opened.{FirstTo}
 use Rattle.qq_opening.proofs.RestartRules.{each-both, first-more, first-whole}

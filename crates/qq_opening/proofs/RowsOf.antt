@@ -7,10 +7,10 @@ use Rattle.qq_base.specs.declared.ids.NodeId.{NodeId}
 use Rattle.qq_base.specs.declared.ids.QueueId.{QueueId}
 use Rattle.qq_raft_model.specs.Group.{has_node}
 use Rattle.qq_raft_protocol.specs.Facts.{In}
-use Rattle.qq_setup.specs.declared.queue_row.QueueRow.{QueueRow}
-use Rattle.qq_cluster.specs.Cluster.{Setup, members}
-use Rattle.qq_nodes.specs.Setting.{IsRowOf, ids_on, is_among}
-use Rattle.qq_nodes.proofs.Walks.{in-range}
+use Rattle.qq_route.specs.declared.queue_row.QueueRow.{QueueRow}
+use Rattle.qq_cluster_model.specs.Cluster.{Setup, members}
+use Rattle.qq_cluster.specs.Setting.{IsRowOf, ids_on, is_among}
+use Rattle.qq_cluster.proofs.Walks.{in-range}
 
 -- ---- lists
 

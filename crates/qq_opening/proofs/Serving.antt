@@ -1,8 +1,8 @@
 -- What was served, so that its events compute.
-use Rattle.qq_cluster.specs.Outcome.{Outcome}
+use Rattle.qq_cluster_model.specs.Outcome.{Outcome}
 use Rattle.std.proofs.Common.{ℕ, List, [], refl, sym, append-nil, arith}
 use Rattle.std.proofs.lemmas.Bool.{false≢true}
-use Rattle.qq_cluster.specs.Cluster.{Cluster, ClusterEvent, Setup}
+use Rattle.qq_cluster_model.specs.Cluster.{Cluster, ClusterEvent, Setup}
 use Rattle.qq_cluster_laws.specs.Serves.{Seen, Serves}
 use Rattle.qq_cluster_laws.proofs.Traces.{traced-none}
 

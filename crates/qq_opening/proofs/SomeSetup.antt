@@ -9,11 +9,11 @@ use Rattle.qq_raft_model.specs.Group.{Group, new_group}
 use Rattle.qq_raft_model.specs.Promises.{AreDistinct}
 use Rattle.qq_raft_protocol.specs.Facts.{In}
 use Rattle.qq_raft_protocol.proofs.Lists.{In-cases}
-use Rattle.qq_setup.specs.declared.queue_row.QueueRow.{QueueRow}
-use Rattle.qq_cluster.specs.Cluster.{Setup, members}
-use Rattle.qq_cluster.specs.Laws.{IsBegun}
+use Rattle.qq_route.specs.declared.queue_row.QueueRow.{QueueRow}
+use Rattle.qq_cluster_model.specs.Cluster.{Setup, members}
+use Rattle.qq_cluster_model.specs.Laws.{IsBegun}
 use Rattle.qq_cluster_laws.specs.Waiting.{HasOwnGroups, IsChangeOf}
-use Rattle.qq_nodes.specs.Setting.{IsSetupOver}
+use Rattle.qq_cluster.specs.Setting.{IsSetupOver}
 use Rattle.qq_opening.specs.Opening.{AreLogsOf, IsSetupWith, Logs, seat_over}
 use Rattle.qq_opening.proofs.Agreed.{item-of}
 use Rattle.qq_opening.proofs.ReadLogs.{row-next, row_at}

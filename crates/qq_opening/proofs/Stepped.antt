@@ -1,6 +1,6 @@
 -- A node that is down was recovered, or not, as a step leaves it.
-use Rattle.qq_cluster.specs.Outcome.{Outcome}
-use Rattle.qq_nodes.specs.Showing.{with_line}
+use Rattle.qq_cluster_model.specs.Outcome.{Outcome}
+use Rattle.qq_cluster.specs.Showing.{with_line}
 use Rattle.std.proofs.Common.{◌≡◌, ◌++◌, ◌-◌, ℕ, Bool, List, Option, refl, ap, subst, inl, inr}
 use Rattle.std.specs.Global.{Vec}
 use Rattle.std.specs.Prelude.{codes}
@@ -13,9 +13,9 @@ use Rattle.qq_disk.specs.Facts.{DiskFacts}
 use Rattle.qq_log.specs.declared.lane.Lane.{Lane}
 use Rattle.qq_recover.specs.declared.fault.RecoverFault.{RecoverFault}
 use Rattle.qq_recover.specs.declared.fault.RecoverFault.TheVariants as recover_faults
-use Rattle.qq_nodes.specs.Logs.{NodeTurns}
-use Rattle.qq_nodes.specs.declared.node.Node.{Node}
-use Rattle.qq_nodes.specs.declared.nodes.Nodes.{Nodes as Held}
+use Rattle.qq_cluster.specs.Logs.{NodeTurns}
+use Rattle.qq_cluster.specs.declared.node.Node.{Node}
+use Rattle.qq_cluster.specs.declared.nodes.Nodes.{Nodes as Held}
 use Rattle.qq_opening.specs.Taking.{FailsToRecover, FindsLanes, FindsNone, GoesOn, IsFaultOf, MayNotStep, Recovers, StaysDown, Steps}
 use Rattle.qq_opening.specs.declared.restarting.RestartFault.{RestartFault}
 use Rattle.qq_opening.specs.declared.restarting.RestartFault.TheVariants as faults_of

@@ -10,13 +10,13 @@ use Rattle.qq_log.specs.declared.lane.Lane.{Lane}
 use Rattle.qq_recover.specs.State.{IsWithinEnds}
 use Rattle.qq_group.specs.declared.restart.RestartFault.{RestartFault}
 use Rattle.qq_group.specs.declared.restart.RestartFault.TheVariants.{Lost}
-use Rattle.qq_cluster_queue.specs.Members.{AreSound}
-use Rattle.qq_cluster_queue.specs.declared.cluster_queue.ClusterQueue.{ClusterQueue}
+use Rattle.qq_queue.specs.Members.{AreSound}
+use Rattle.qq_queue.specs.declared.cluster_queue.ClusterQueue.{ClusterQueue}
 use Rattle.qq_node_log.specs.Found.{AreDistinct}
 use Rattle.qq_opening.specs.declared.taking.Handed.{Handed}
 use Rattle.qq_opening.specs.Taking.{AllChange, ChangesAt, IsLostAmong, IsTakeCaused, IsTakeCausedAt, MayTakeAt, MayTakeEach, TakesUp, TakesUpOne, index_of, pair_index, pairs}
 use Rattle.qq_opening.proofs.Changing.{all-then, set-get, set-long}
-use Rattle.qq_nodes.proofs.Walks.{drop-at}
+use Rattle.qq_cluster.proofs.Walks.{drop-at}
 
 -- ---- the queue at an index
 

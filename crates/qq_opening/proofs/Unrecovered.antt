@@ -1,7 +1,7 @@
 -- A node that is down isn't recovered: its disk has failed, or the restart is given up.
-use Rattle.qq_cluster.specs.Outcome.{Outcome}
-use Rattle.qq_nodes.proofs.Outcomes.{line-outcome}
-use Rattle.qq_nodes.specs.Showing.{with_line}
+use Rattle.qq_cluster_model.specs.Outcome.{Outcome}
+use Rattle.qq_cluster.proofs.Outcomes.{line-outcome}
+use Rattle.qq_cluster.specs.Showing.{with_line}
 use Rattle.std.proofs.Common.{◌≡◌, ◌<◌, ◌+◌, ◌-◌, ℕ, false, List, [], ◌∷◌, ◌++◌, Some, None, length, refl, sym, ap, ◌∙◌, subst, inr}
 use Rattle.std.specs.Fmt.{decimal}
 use Rattle.std.specs.Global.{Vec}
@@ -22,40 +22,40 @@ use Rattle.qq_recover.specs.Reading.{lanes_read, shown}
 use Rattle.qq_recover.specs.Recovered.{IsNoRefusal, IsRecoverCaused}
 use Rattle.qq_recover.specs.declared.fault.RecoverFault.{RecoverFault}
 use Rattle.qq_recover.specs.declared.fault.RecoverFault.TheVariants as recover_faults
-use Rattle.qq_cluster.specs.Cluster.{Cluster, Fails, Setup, cluster_happens}
-use Rattle.qq_cluster.specs.Queue.{Queue, Stops, happens}
-use Rattle.qq_cluster.specs.Rules.{ForEach, IsFound, IsNothing, IsRestart}
+use Rattle.qq_cluster_model.specs.Cluster.{Cluster, Fails, Setup, cluster_happens}
+use Rattle.qq_cluster_model.specs.Queue.{Queue, Stops, happens}
+use Rattle.qq_cluster_model.specs.Rules.{ForEach, IsFound, IsNothing, IsRestart}
 use Rattle.qq_cluster_laws.specs.Linked.{IsLinked, IsReached, lot_of, part_at, parts_at}
 use Rattle.qq_cluster_laws.specs.Serves.{GivesUp, Seen, Serves, seen_of}
 use Rattle.qq_cluster_laws.proofs.Calls.{failed-traced}
 use Rattle.qq_cluster_laws.proofs.Links.{failed-follow}
 use Rattle.qq_cluster_laws.proofs.Traces.{broken-none}
-use Rattle.qq_cluster_queue.specs.ClusterQueue.{Stands as IsQueue}
-use Rattle.qq_cluster_queue.specs.Sessions.{standings}
-use Rattle.qq_cluster_queue.specs.declared.cluster_queue.ClusterQueue.{ClusterQueue}
+use Rattle.qq_queue.specs.ClusterQueue.{Stands as IsQueue}
+use Rattle.qq_queue.specs.Sessions.{standings}
+use Rattle.qq_queue.specs.declared.cluster_queue.ClusterQueue.{ClusterQueue}
 use Rattle.qq_node_log.specs.Log.{IsWhole, disk_in}
 use Rattle.qq_node_log.specs.Steps.{AlwaysKeeps, SameDisk}
 use Rattle.qq_node_log.specs.declared.node_log.NodeLog.TheVariants.{Closed}
-use Rattle.qq_nodes.specs.Logs.{NodeTurns}
-use Rattle.qq_nodes.specs.Nodes.{EndsAt, HaveLogs, IsNodeAt, IsNodeOf, Served, Stands, seen}
+use Rattle.qq_cluster.specs.Logs.{NodeTurns}
+use Rattle.qq_cluster.specs.Nodes.{EndsAt, HaveLogs, IsNodeAt, IsNodeOf, Served, Stands, seen}
 use Rattle.qq_opening.specs.Restarting.{Refuses, RestartsTo, lanes_at, this_node}
 use Rattle.qq_opening.specs.Taking.{FailsToRecover, FindsNone, IsFaultOf}
-use Rattle.qq_nodes.specs.declared.node.Node.{Node}
-use Rattle.qq_nodes.specs.declared.nodes.Nodes.{Nodes as Held}
+use Rattle.qq_cluster.specs.declared.node.Node.{Node}
+use Rattle.qq_cluster.specs.declared.nodes.Nodes.{Nodes as Held}
 use Rattle.qq_opening.specs.declared.restarting.RestartFault.{RestartFault}
 use Rattle.qq_opening.specs.declared.restarting.RestartFault.TheVariants as faults_of
 use Rattle.qq_opening.proofs.FoundQueues.{down-server, not-stopped}
 use Rattle.qq_opening.proofs.OwnDisk.{disk-gives_up, disk-serves, seen-before}
 use Rattle.qq_opening.proofs.Recovering.{spent-end, spent-log}
 use Rattle.qq_opening.proofs.Serving.{serves-none}
-use Rattle.qq_nodes.proofs.OwnStands.{QueuesOf, node-was, stands-own}
-use Rattle.qq_nodes.proofs.Logged.{logs-with}
-use Rattle.qq_nodes.proofs.Stands.{ends-now, stands-logs}
-use Rattle.qq_nodes.proofs.Owned.{own-fail}
-use Rattle.qq_nodes.proofs.Pumping.{rule-else}
-use Rattle.qq_nodes.proofs.Quiet.{quiet-stopped}
-use Rattle.qq_nodes.proofs.Told.{place-here}
-use Rattle.qq_nodes.proofs.Turned.{within-length}
+use Rattle.qq_cluster.proofs.OwnStands.{QueuesOf, node-was, stands-own}
+use Rattle.qq_cluster.proofs.Logged.{logs-with}
+use Rattle.qq_cluster.proofs.Stands.{ends-now, stands-logs}
+use Rattle.qq_cluster.proofs.Owned.{own-fail}
+use Rattle.qq_cluster.proofs.Pumping.{rule-else}
+use Rattle.qq_cluster.proofs.Quiet.{quiet-stopped}
+use Rattle.qq_cluster.proofs.WaitsThere.{place-here}
+use Rattle.qq_cluster.proofs.Turned.{within-length}
 
 -- ---- what may begin a restart
 
@@ -190,7 +190,6 @@ module _ {D : Type 0} {facts : DiskFacts D} (node : NodeId) (old left : Held D) 
                 own.stands;
             sound = own.sound;
             name_is = own.name_is;
-            first_is = own.first_is;
             place_is = own.place_is;
           }
 

@@ -9,14 +9,14 @@ use Rattle.qq_raft_model.specs.Group.{Seat, has_node, is_down, may_restart}
 use Rattle.qq_raft_protocol.specs.Facts.{In}
 use Rattle.qq_raft_protocol.proofs.Lists.{In-append}
 use Rattle.qq_wal_chain.specs.Lanes.{Lanes}
-use Rattle.qq_cluster.specs.Cluster.{Cluster, ClusterEvent, Fails, FindsEach, Setup, cluster_after, new_cluster}
-use Rattle.qq_cluster.specs.Queue.{Queue}
-use Rattle.qq_cluster.specs.Rules.{ForEach, IsFound, IsNothing, IsRestart, if_so, may_find}
+use Rattle.qq_cluster_model.specs.Cluster.{Cluster, ClusterEvent, Fails, FindsEach, Setup, cluster_after, new_cluster}
+use Rattle.qq_cluster_model.specs.Queue.{Queue}
+use Rattle.qq_cluster_model.specs.Rules.{ForEach, IsFound, IsNothing, IsRestart, if_so, may_find}
 use Rattle.qq_cluster_laws.specs.Restarts.{first_of, first_restart}
 use Rattle.qq_cluster_laws.proofs.Reached.{after-both}
 use Rattle.qq_cluster_laws.proofs.Restarts.{first-both, first-stays}
-use Rattle.qq_nodes.proofs.Pumping.{rule-else}
-use Rattle.qq_nodes.proofs.Walks.{in-range}
+use Rattle.qq_cluster.proofs.Pumping.{rule-else}
+use Rattle.qq_cluster.proofs.Walks.{in-range}
 use Rattle.qq_opening.specs.Opening.{HaveRestarted, Logs, StopsBefore, seat_over}
 use Rattle.qq_opening.proofs.FoundQueues.{found-others}
 use Rattle.qq_opening.proofs.RestartRules.{each-both, each-one, each-up}

@@ -1,6 +1,6 @@
 -- What stands while nodes are opened: what was read of the first of them, and what the cluster is where that turns
 -- out to support an audit.
-use Rattle.qq_cluster.specs.Outcome.{Outcome}
+use Rattle.qq_cluster_model.specs.Outcome.{Outcome}
 use Rattle.std.specs.Prelude.{◌≡◌, ◌<◌, ◌≤◌, ◌+◌, ℕ, Bool, true, false, not, List, [], Option, Some, None, Ok, Contains, IsTrue, is_some, length, map, slice_get, take}
 use Rattle.std.specs.List.{range_with_len}
 use Rattle.qq_base.specs.Causes.{Rose}
@@ -21,20 +21,20 @@ use Rattle.qq_raft_model.specs.Group.{Group as GroupState}
 use Rattle.qq_raft_model.specs.Promises.{IsOpened}
 use Rattle.qq_raft_protocol.specs.Facts.{In}
 use Rattle.qq_recover.specs.Reading.{lanes_read, shown}
-use Rattle.qq_setup.specs.declared.queue_row.QueueRow.{QueueRow}
+use Rattle.qq_route.specs.declared.queue_row.QueueRow.{QueueRow}
 use Rattle.qq_wal_chain.specs.Lanes.{Lanes}
-use Rattle.qq_cluster.specs.Cluster.{Cluster, ClusterEvent, Setup, new_cluster}
-use Rattle.qq_cluster.specs.ClusterLaws.{HasGroups, findings}
-use Rattle.qq_cluster.specs.Rules.{ForEach, IsRestart}
+use Rattle.qq_cluster_model.specs.Cluster.{Cluster, ClusterEvent, Setup, new_cluster}
+use Rattle.qq_cluster_model.specs.ClusterLaws.{HasGroups, findings}
+use Rattle.qq_cluster_model.specs.Rules.{ForEach, IsRestart}
 use Rattle.qq_cluster_laws.specs.Serves.{Seen, Serves, fails_at}
-use Rattle.qq_cluster_queue.specs.Agreeing.{BeginsWith, HasItsLogs}
-use Rattle.qq_cluster_queue.specs.Members.{AreSound, Member}
-use Rattle.qq_cluster_queue.specs.declared.cluster_queue.ClusterQueue.{ClusterQueue}
-use Rattle.qq_nodes.specs.Logs.{NodeTurns}
-use Rattle.qq_nodes.specs.Nodes.{Stands, seen}
-use Rattle.qq_nodes.specs.Setting.{ids_on, is_among}
-use Rattle.qq_nodes.specs.declared.node.Node.{Node}
-use Rattle.qq_nodes.specs.declared.nodes.Nodes.{Nodes as Held}
+use Rattle.qq_queue.specs.Agreeing.{BeginsWith, HasItsLogs}
+use Rattle.qq_queue.specs.Members.{AreSound, Member}
+use Rattle.qq_queue.specs.declared.cluster_queue.ClusterQueue.{ClusterQueue}
+use Rattle.qq_cluster.specs.Logs.{NodeTurns}
+use Rattle.qq_cluster.specs.Nodes.{Stands, seen}
+use Rattle.qq_cluster.specs.Setting.{ids_on, is_among}
+use Rattle.qq_cluster.specs.declared.node.Node.{Node}
+use Rattle.qq_cluster.specs.declared.nodes.Nodes.{Nodes as Held}
 use Rattle.qq_opening.specs.Opening.{AreLogsOf, AreReadLogs, HaveRestarted, IsSetupWith, Logs, state_read, told_of}
 use Rattle.qq_opening.specs.declared.restarting.RestartFault.{RestartFault}
 use Rattle.qq_opening.specs.declared.restarting.RestartFault.TheVariants.{Damaged, Version, Lost, Memory}

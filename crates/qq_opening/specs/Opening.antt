@@ -1,6 +1,6 @@
 -- Nodes are opened over disks that may hold the logs of an earlier run: what they read, and over which logs the
 -- cluster begins.
-use Rattle.qq_cluster.specs.Outcome.{Outcome}
+use Rattle.qq_cluster_model.specs.Outcome.{Outcome}
 use Rattle.std.specs.Prelude.{◌≡◌, ◌⊎◌, ◌<◌, ◌+◌, ◌-◌, ◌++◌, ◌∷◌, ℕ, Bool, true, false, List, [], Option, Some, None, Ok, Err, Contains, IsTrue, is_some, length, slice_get}
 use Rattle.std.specs.List.{AllByRecursion, range_with_len}
 use Rattle.qq_base.specs.Causes.{Rose}
@@ -17,18 +17,18 @@ use Rattle.qq_raft_protocol.specs.Facts.{In}
 use Rattle.qq_recover.specs.Reading.{lanes_read, shown}
 use Rattle.qq_recover.specs.declared.fault.RecoverFault.{RecoverFault}
 use Rattle.qq_recover.specs.declared.fault.RecoverFault.TheVariants as recover_faults
-use Rattle.qq_setup.specs.declared.queue_row.QueueRow.{QueueRow}
+use Rattle.qq_route.specs.declared.queue_row.QueueRow.{QueueRow}
 use Rattle.qq_wal_chain.specs.Lanes.{Lanes}
-use Rattle.qq_cluster.specs.Cluster.{ClusterEvent, Setup, cluster_after, members, new_cluster}
-use Rattle.qq_cluster.specs.ClusterLaws.{HasGroups}
-use Rattle.qq_cluster.specs.Laws.{IsBegun}
-use Rattle.qq_cluster.specs.Rules.{ForEach, IsOpening, IsRestart}
+use Rattle.qq_cluster_model.specs.Cluster.{ClusterEvent, Setup, cluster_after, members, new_cluster}
+use Rattle.qq_cluster_model.specs.ClusterLaws.{HasGroups}
+use Rattle.qq_cluster_model.specs.Laws.{IsBegun}
+use Rattle.qq_cluster_model.specs.Rules.{ForEach, IsOpening, IsRestart}
 use Rattle.qq_cluster_laws.specs.Restarts.{first_restart}
 use Rattle.qq_cluster_laws.specs.Serves.{GivesUp, Serves}
 use Rattle.qq_cluster_laws.specs.Waiting.{HasOwnGroups, IsChangeOf}
-use Rattle.qq_nodes.specs.Nodes.{EachHasLog, EndsAt, Stands, seen}
-use Rattle.qq_nodes.specs.Setting.{IsRowOf, ids_on, is_among}
-use Rattle.qq_nodes.specs.declared.nodes.Nodes.{Nodes as Held}
+use Rattle.qq_cluster.specs.Nodes.{EachHasLog, EndsAt, Stands, seen}
+use Rattle.qq_cluster.specs.Setting.{IsRowOf, ids_on, is_among}
+use Rattle.qq_cluster.specs.declared.nodes.Nodes.{Nodes as Held}
 use Rattle.qq_opening.specs.Restarting.{AreLinked, IsOfMemory, IsOpenedTo}
 use Rattle.qq_opening.specs.declared.restarting.RestartFault.{RestartFault}
 use Rattle.qq_opening.specs.declared.restarting.RestartFault.TheVariants.{Damaged, Version, Lost, Memory}

@@ -1,5 +1,5 @@
 -- What a restart and the opening of nodes have done, and why nodes aren't restarted.
-use Rattle.qq_cluster.specs.Outcome.{Outcome}
+use Rattle.qq_cluster_model.specs.Outcome.{Outcome}
 use Rattle.std.specs.Prelude.{◌≡◌, ◌++◌, ◌∷◌, ℕ, Bool, true, false, List, [], Some, Ok, Err, take, IsTrue, Contains}
 use Rattle.std.specs.List.{AllByRecursion, list_any}
 use Rattle.qq_base.specs.declared.ids.NodeId.{NodeId}
@@ -16,14 +16,14 @@ use Rattle.qq_recover.specs.Answer.{Answer}
 use Rattle.qq_recover.specs.Reading.{lanes_read, shown}
 use Rattle.qq_recover.specs.declared.fault.RecoverFault.TheVariants as recover_faults
 use Rattle.qq_wal_chain.specs.Lanes.{Lanes}
-use Rattle.qq_cluster.specs.Cluster.{Cluster, ClusterEvent, Setup, cluster_after, members}
-use Rattle.qq_cluster.specs.ClusterLaws.{findings}
-use Rattle.qq_cluster.specs.Queue.{Queue}
-use Rattle.qq_cluster.specs.Rules.{ForEach, IsFirstTick, IsOpening, IsPump, IsRestart, Then}
+use Rattle.qq_cluster_model.specs.Cluster.{Cluster, ClusterEvent, Setup, cluster_after, members}
+use Rattle.qq_cluster_model.specs.ClusterLaws.{findings}
+use Rattle.qq_cluster_model.specs.Queue.{Queue}
+use Rattle.qq_cluster_model.specs.Rules.{ForEach, IsFirstTick, IsOpening, IsPump, IsRestart, Then}
 use Rattle.qq_cluster_laws.specs.Linked.{IsLinked, IsReached, lot_of}
 use Rattle.qq_cluster_laws.specs.Serves.{GivesUp, Serves, fails_at}
-use Rattle.qq_nodes.specs.Nodes.{EndsAt, HaveLogs, Stands, seen}
-use Rattle.qq_nodes.specs.declared.nodes.Nodes.{Nodes as Held}
+use Rattle.qq_cluster.specs.Nodes.{EndsAt, HaveLogs, Stands, seen}
+use Rattle.qq_cluster.specs.declared.nodes.Nodes.{Nodes as Held}
 use Rattle.qq_opening.specs.declared.restarting.RestartFault.{RestartFault}
 use Rattle.qq_opening.specs.declared.restarting.RestartFault.TheVariants.{Damaged, Version, Lost, Memory}
 

@@ -1,6 +1,6 @@
 -- What a restart does to a node's queues and its log, step by step.
-use Rattle.qq_cluster.specs.Outcome.{Outcome}
-use Rattle.qq_nodes.specs.Showing.{with_line}
+use Rattle.qq_cluster_model.specs.Outcome.{Outcome}
+use Rattle.qq_cluster.specs.Showing.{with_line}
 use Rattle.std.specs.Prelude.{◌≡◌, ◌⊎◌, ◌<◌, ◌-◌, ◌++◌, ℕ, Bool, true, false, List, [], ◌∷◌, Option, Some, None, All, IsTrue, IfSome, codes, is_some, length, slice_get, slice_set}
 use Rattle.std.specs.Global.{Vec}
 use Rattle.std.specs.List.{AllByRecursion}
@@ -30,22 +30,22 @@ use Rattle.qq_recover.specs.Recovered.{IsRecoverCaused, IsSpentOn}
 use Rattle.qq_recover.specs.State.{IsWithinEnds}
 use Rattle.qq_recover.specs.declared.fault.RecoverFault.{RecoverFault}
 use Rattle.qq_recover.specs.declared.fault.RecoverFault.TheVariants as recover_faults
-use Rattle.qq_cluster.specs.Queue.{Finds, Queue, happens}
-use Rattle.qq_cluster_queue.specs.Agreeing.{BeginsWith}
-use Rattle.qq_cluster_queue.specs.ClusterQueue.{IsSameQueue, Stands as IsQueue}
-use Rattle.qq_cluster_queue.specs.Members.{AreSound}
-use Rattle.qq_cluster_queue.specs.Sessions.{Standings}
-use Rattle.qq_cluster_queue.specs.declared.cluster_queue.ClusterQueue.{ClusterQueue}
+use Rattle.qq_cluster_model.specs.Queue.{Finds, Queue, happens}
+use Rattle.qq_queue.specs.Agreeing.{BeginsWith}
+use Rattle.qq_queue.specs.ClusterQueue.{IsSameQueue, Stands as IsQueue}
+use Rattle.qq_queue.specs.Members.{AreSound}
+use Rattle.qq_queue.specs.Sessions.{Standings}
+use Rattle.qq_queue.specs.declared.cluster_queue.ClusterQueue.{ClusterQueue}
 use Rattle.qq_node_log.specs.Found.{AreDistinct, FailsKeeping, HasFound}
 use Rattle.qq_node_log.specs.Log.{IsWhole, disk_in}
 use Rattle.qq_node_log.specs.Steps.{SameDisk}
 use Rattle.qq_node_log.specs.declared.node_log.NodeLog.{NodeLog}
 use Rattle.qq_node_log.specs.declared.node_log.NodeLog.TheVariants.{Open, Closed}
 use Rattle.qq_node_log.specs.declared.recovering.Found.{Found}
-use Rattle.qq_nodes.specs.Logs.{NodeTurns}
-use Rattle.qq_nodes.specs.Nodes.{IsNodeAt}
-use Rattle.qq_nodes.specs.declared.node.Node.{Node}
-use Rattle.qq_nodes.specs.declared.nodes.Nodes.{Nodes as Held}
+use Rattle.qq_cluster.specs.Logs.{NodeTurns}
+use Rattle.qq_cluster.specs.Nodes.{IsNodeAt}
+use Rattle.qq_cluster.specs.declared.node.Node.{Node}
+use Rattle.qq_cluster.specs.declared.nodes.Nodes.{Nodes as Held}
 use Rattle.qq_opening.specs.Restarting.{MayTakeUp}
 use Rattle.qq_opening.specs.declared.restarting.RestartFault.{RestartFault as NodeFault}
 use Rattle.qq_opening.specs.declared.restarting.RestartFault.TheVariants as node_faults

@@ -1,13 +1,13 @@
 //! Whether the logs that were found of each queue may be those of one group.
 ghost use Rattle.std.specs.Prelude.{◌≡◌, ◌<◌, ◌+◌, All, Contains, IfNone, IfSome, Some, length, slice_get};
-ghost use Rattle.qq_cluster_queue.specs.Members.{AreSound};
-ghost use Rattle.qq_cluster_queue.specs.declared.cluster_queue.ClusterQueue.{ClusterQueue as QueueOf};
+ghost use Rattle.qq_queue.specs.Members.{AreSound};
+ghost use Rattle.qq_queue.specs.declared.cluster_queue.ClusterQueue.{ClusterQueue as QueueOf};
 ghost use Rattle.qq_opening.specs.Opened.{Agrees, Disagrees, TellsLost};
 
 use crate::restarting::RestartFault;
 use qq_base::{Memory, QueueId};
+use qq_cluster::Nodes;
 use qq_disk::NodeDisk;
-use qq_nodes::Nodes;
 
 /// The first queue whose members' logs support no audit, by its index.
 pub(crate) fn first_lost<D: NodeDisk>(nodes: &Nodes<D>) -> Option<usize>

@@ -1,9 +1,9 @@
 //! Nodes are marked as up, or as empty.
 ghost use Rattle.std.specs.Prelude.{◌≡◌, ◌<◌, length, not};
-ghost use Rattle.qq_nodes.specs.Logs.{NodeTurns};
+ghost use Rattle.qq_cluster.specs.Logs.{NodeTurns};
 
+use qq_cluster::Node;
 use qq_disk::NodeDisk;
-use qq_nodes::Node;
 
 fn mark<D: NodeDisk>(node: &mut Node<D>, up: bool)
     ensures { node.new ≡ record node.old { up = up; empty = not up } }

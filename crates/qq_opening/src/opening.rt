@@ -1,19 +1,18 @@
 //! The nodes of a cluster are opened over their disks.
 ghost use Rattle.std.specs.Prelude.{◌≡◌, ◌<◌, ◌||◌, List, IfErr, IfOk, length};
-ghost use Rattle.qq_nodes.specs.Setting.{AreNew};
+ghost use Rattle.qq_cluster.specs.Setting.{AreNew};
 ghost use Rattle.qq_opening.specs.Opened.{IsMarked, OpenedTo};
 ghost use Rattle.qq_opening.specs.Opening.{MayNotOpen, OpensOver};
-ghost use Rattle.qq_setup.specs.declared.queue_row.QueueRow.{QueueRow as Row};
+ghost use Rattle.qq_route.specs.declared.queue_row.QueueRow.{QueueRow as Row};
 
 use crate::agreeing::{first_lost, lost};
 use crate::marking::mark_in;
 use crate::restarting::RestartFault;
 use crate::stepping::recover_node;
 use qq_base::NodeId;
-use qq_cluster::a_queue_may_begin_with_new_logs;
-use qq_cluster_queue::Told;
+use qq_cluster::{Nodes, Told};
+use qq_cluster_model::a_queue_may_begin_with_new_logs;
 use qq_disk::NodeDisk;
-use qq_nodes::Nodes;
 use qq_taker::Taker;
 use std::alloc::Global;
 
@@ -54,9 +53,7 @@ fn open_each<D: NodeDisk, T: Taker>(
     let count = nodes.nodes.len();
     'nodes: for at in 0..count {
         let node = NodeId(at as u8 + 1);
-        if let Err(fault) = recover_node(nodes, alloc, node, true, told) {
-            return Err(fault);
-        }
+        recover_node(nodes, alloc, node, true, told)?;
         let up = settle(nodes, at);
         some = has_opened(some, up);
     }
@@ -83,10 +80,7 @@ pub fn open<D: NodeDisk, T: Taker>(
         MayNotOpen D.facts rows nodes.old nodes.new fault) }
 {
     a_queue_may_begin_with_new_logs();
-    let some = match open_each(nodes, alloc, told) {
-        Ok(some) => some,
-        Err(fault) => return Err(fault),
-    };
+    let some = open_each(nodes, alloc, told)?;
     if let Some(at) = first_lost(nodes) {
         return Err(lost(nodes, at));
     }

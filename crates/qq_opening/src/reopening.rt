@@ -1,15 +1,14 @@
 //! The nodes of a cluster that was opened before are opened again, all of them.
 ghost use Rattle.std.specs.Prelude.{◌≡◌, IfErr, IfOk};
 ghost use Rattle.std.specs.List.{list_any};
-ghost use Rattle.qq_cluster.specs.Cluster.{Cluster, Setup};
-ghost use Rattle.qq_cluster.specs.Rules.{IsOpening};
-ghost use Rattle.qq_nodes.specs.Nodes.{CanServe, Served, Stands};
+ghost use Rattle.qq_cluster_model.specs.Cluster.{Cluster, Setup};
+ghost use Rattle.qq_cluster_model.specs.Rules.{IsOpening};
+ghost use Rattle.qq_cluster.specs.Nodes.{CanServe, Served, Stands};
 ghost use Rattle.qq_opening.specs.Restarting.{IsReopening, Refuses, all_nodes};
 
 use crate::restarting::{RestartFault, restart_each};
-use qq_cluster_queue::Told;
+use qq_cluster::{Nodes, Told};
 use qq_disk::NodeDisk;
-use qq_nodes::Nodes;
 use qq_taker::Taker;
 use std::alloc::Global;
 
@@ -42,9 +41,7 @@ pub fn reopen<D: NodeDisk, T: Taker>(
         told.old told.new) }
     ensures err { IfErr result (Refuses D.facts all_nodes IsOpening nodes.old nodes.new told.old) }
 {
-    if let Err(fault) = restart_each(nodes, alloc, told) {
-        return Err(fault);
-    }
+    restart_each(nodes, alloc, told)?;
     let some = has_up(nodes);
     if let Err(memory) = nodes.tick_each(alloc, told) {
         return Err(RestartFault::Memory(memory));

@@ -1,15 +1,14 @@
 //! Nodes are restarted.
 ghost use Rattle.std.specs.Prelude.{IfErr, OnOk};
-ghost use Rattle.qq_cluster.specs.Cluster.{Setup};
-ghost use Rattle.qq_cluster.specs.Rules.{ForEach, IsRestart};
-ghost use Rattle.qq_nodes.specs.Nodes.{CanServe, IsNodeAt, Served};
+ghost use Rattle.qq_cluster_model.specs.Cluster.{Setup};
+ghost use Rattle.qq_cluster_model.specs.Rules.{ForEach, IsRestart};
+ghost use Rattle.qq_cluster.specs.Nodes.{CanServe, IsNodeAt, Served};
 ghost use Rattle.qq_opening.specs.Restarting.{Refuses, all_nodes, this_node};
 
 use crate::stepping::recover_node;
 use qq_base::{Memory, NodeId, QueueId};
-use qq_cluster_queue::Told;
+use qq_cluster::{Nodes, Told};
 use qq_disk::{FileName, NodeDisk};
-use qq_nodes::Nodes;
 use qq_taker::Taker;
 use std::alloc::Global;
 use thiserror::Error;
@@ -96,9 +95,7 @@ pub fn restart_each<D: NodeDisk, T: Taker>(
     let count = nodes.nodes.len();
     'nodes: for at in 0..count {
         let node = nodes.node_id(at);
-        if let Err(fault) = restart(nodes, alloc, node, told) {
-            return Err(fault);
-        }
+        restart(nodes, alloc, node, told)?;
     }
     Ok(())
 }

@@ -1,19 +1,18 @@
 //! A node that is down is recovered, and its members go on with what was found.
 ghost use Rattle.std.specs.Prelude.{◌≡◌, ◌<◌, length, slice_get, IfErr, IfOk, OnErr, OnOk, Some};
 ghost use Rattle.qq_node_log.specs.Found.{AreDistinct};
-ghost use Rattle.qq_nodes.specs.Logs.{NodeTurns};
-ghost use Rattle.qq_nodes.specs.declared.node.Node.{Node as NodeOf};
+ghost use Rattle.qq_cluster.specs.Logs.{NodeTurns};
+ghost use Rattle.qq_cluster.specs.declared.node.Node.{Node as NodeOf};
 ghost use Rattle.qq_opening.specs.Taking.{AreLanesAt, FailsToRecover, GoesOn, MayGoOn, MayNotStep, MayRecover, MayStep, Recovers, StaysDown, Steps};
 
 use crate::marking::mark_in;
 use crate::restarting::RestartFault;
 use crate::taking::{handed_of, take_up_each};
 use qq_base::NodeId;
-use qq_cluster_queue::Told;
+use qq_cluster::{Node, Nodes, Told};
 use qq_disk::NodeDisk;
 use qq_log::Lane;
 use qq_node_log::{Found, NodeLog, recover_log};
-use qq_nodes::{Node, Nodes};
 use qq_recover::RecoverFault;
 use qq_taker::Taker;
 use std::alloc::Global;
@@ -103,9 +102,7 @@ fn go_on<D: NodeDisk>(
     let at = node.0 as usize - 1;
     let own = &nodes.nodes[at];
     let handed = handed_of(opens, own.empty);
-    if let Err(fault) = take_up_each(&mut nodes.queues, alloc, node, handed, &own.queues, lanes) {
-        return Err(fault);
-    }
+    take_up_each(&mut nodes.queues, alloc, node, handed, &own.queues, lanes)?;
     mark_in(&mut nodes.nodes, at, true);
     Ok(())
 }

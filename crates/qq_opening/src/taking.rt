@@ -8,17 +8,17 @@ ghost use Rattle.qq_group.specs.Group.{server_at};
 ghost use Rattle.qq_raft_model.specs.Group.{has_node};
 ghost use Rattle.qq_raft_msg.specs.Rpc.{IsNode};
 ghost use Rattle.qq_recover.specs.State.{IsWithinEnds};
-ghost use Rattle.qq_cluster_queue.specs.ClusterQueue.{IsSameQueue};
-ghost use Rattle.qq_cluster_queue.specs.Members.{AreSound};
+ghost use Rattle.qq_queue.specs.ClusterQueue.{IsSameQueue};
+ghost use Rattle.qq_queue.specs.Members.{AreSound};
 ghost use Rattle.qq_node_log.specs.Found.{AreDistinct};
 ghost use Rattle.qq_opening.specs.declared.taking.Handed.TheVariants.{AsFound, Known};
 ghost use Rattle.qq_opening.specs.Taking.{AllChange, ChangesAt, IsFindCaused, IsTakeCaused, IsTakeCausedAt, IsTakeEachCaused, IsUnused, MayBeHanded, MayFind, MayTakeAt, MayTakeEach, TakesUp, TakesUpOne, handed_of, index_of, log_found, pair_index, pairs};
 
 use crate::restarting::RestartFault;
 use qq_base::{Memory, NodeId, QueueId};
-use qq_cluster_queue::ClusterQueue;
 use qq_group::RestartFault as TakeFault;
 use qq_log::{Lane, Log};
+use qq_queue::ClusterQueue;
 use std::alloc::Global;
 
 /// What is known of what a member's log was handed.
@@ -161,13 +161,9 @@ fn take_up(
     ensures cause { IfErr result (IsTakeCaused node.0 handed lane queue.old) }
 {
     let log = log_of_lane(alloc, id, lane);
-    if let Err(fault) = check_log(queue, node, handed, &log) {
-        return Err(fault);
-    }
-    match queue.find(alloc, node, log) {
-        Ok(()) => Ok(()),
-        Err(fault) => Err(fault),
-    }
+    check_log(queue, node, handed, &log)?;
+    queue.find(alloc, node, log)?;
+    Ok(())
 }
 
 // The same of the queue at an index.

@@ -6,8 +6,7 @@ ghost use Rattle.qq_log.specs.Stable.{no_snapshot};
 ghost use Rattle.qq_raft_core.specs.Undone.{keeps_within, log_before, term_before, vote_before};
 
 use qq_base::{Index, NodeId, Term};
-use qq_entry::{Entries, Entry};
-use qq_entry_checks::same_entry;
+use qq_entry::{Entries, Entry, same_entry};
 use qq_raft_msg::LogView;
 
 /// What leads back from a change of a server to what its disk was to hold before.

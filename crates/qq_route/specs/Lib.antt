@@ -6,3 +6,5 @@ pub mod Topic
 pub mod View
 pub mod Walk
 pub mod Words
+pub mod Members
+pub mod Setup

@@ -4,7 +4,8 @@ use Rattle.std.specs.Fmt.{decimal}
 use Rattle.qq_entry.specs.declared.command.Command.{Command}
 use Rattle.qq_entry.specs.declared.command.Command.TheVariants.{Noop, Enqueue, Get, Subscribe, Cancel, Credit, Settle, Return, Discard, Purge, Down, DeadAttach, DeadSettle}
 use Rattle.qq_entry.specs.declared.audit.AuditRow.{AuditRow}
-use Rattle.qq_script.specs.Text.{answer_words, seq_of, tag_of}
+use Rattle.qq_entry.specs.Command.{seq_of}
+use Rattle.qq_script.specs.Text.{answer_words, tag_of}
 use Rattle.qq_script.specs.Audit.{command_text, command_head, command_ids, again_text, row_text}
 
 pub command_parts : (c : Command) → command_text c ≡ command_head c ++ command_ids c

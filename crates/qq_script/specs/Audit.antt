@@ -8,7 +8,8 @@ use Rattle.qq_entry.specs.declared.command.Command.TheVariants.{Noop, Enqueue, G
 use Rattle.qq_entry.specs.declared.answer.Answer.{Answer}
 use Rattle.qq_entry.specs.declared.audit.AuditRow.{AuditRow}
 use Rattle.qq_entry.specs.Answer.{comes_from_gate}
-use Rattle.qq_script.specs.Text.{seq_of, tag_of, session_text, answer_words}
+use Rattle.qq_entry.specs.Command.{seq_of}
+use Rattle.qq_script.specs.Text.{tag_of, session_text, answer_words}
 
 -- numbers with commas between them
 abbrev pub comma_before : List ℕ → List ℕ

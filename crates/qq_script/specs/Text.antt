@@ -1,13 +1,11 @@
 -- The text of answers and deliveries.
 use Rattle.std.specs.Prelude.{ℕ, List, [], ◌∷◌, ◌++◌, Bool, true, ◌==◌, ◌&&◌, Option, Some, None, unwrap_or, codes, if◌then◌else◌}
 use Rattle.std.specs.Fmt.{decimal}
-use Rattle.std.specs.Option.{option_map_or}
 use Rattle.qq_base.specs.declared.ids.ConsumerId.{ConsumerId}
 use Rattle.qq_base.specs.declared.ids.SessionId.{SessionId}
 use Rattle.qq_entry.specs.declared.message.Content.{Content}
 use Rattle.qq_entry.specs.declared.command.Command.{Command}
-use Rattle.qq_entry.specs.declared.command.Stamp.{Stamp}
-use Rattle.qq_entry.specs.Command.{session, stamp, tag}
+use Rattle.qq_entry.specs.Command.{seq_of, session, tag}
 use Rattle.qq_entry.specs.declared.answer.Full.{Full}
 use Rattle.qq_entry.specs.declared.answer.Full.TheVariants.{Length, ByteLength, Live}
 use Rattle.qq_entry.specs.declared.answer.Cause.{Cause}
@@ -15,10 +13,6 @@ use Rattle.qq_entry.specs.declared.answer.Cause.TheVariants.{SingleActive, Numbe
 use Rattle.qq_entry.specs.declared.answer.Answer.{Answer}
 use Rattle.qq_entry.specs.declared.answer.Delivery.{Delivery}
 use Rattle.qq_entry.specs.declared.answer.Answer.TheVariants as answers
-
--- the number of a stamped command, and 0 of one without a stamp
-abbrev pub seq_of : Command → ℕ
-seq_of command = option_map_or (λ (by : Stamp). by.seq) (stamp command) 0
 
 -- the tag that a command names, and 0 of one that names none
 abbrev pub tag_of : Command → ℕ

@@ -1,22 +1,12 @@
 ghost use Rattle.std.specs.Prelude.{◌≡◌, ◌+◌, ◌≤◌, ◌++◌, ◌∷◌, [], length, Some, OnOk, IsOkUnless, OnErr};
-ghost use Rattle.qq_entry.specs.Command.{session};
-ghost use Rattle.qq_script.specs.Text.{seq_of, tag_of, full_text, cause_text, answer_words, content_body, shown_body, is_first_client, line_prefix, answer_text};
+ghost use Rattle.qq_entry.specs.Command.{seq_of, session};
+ghost use Rattle.qq_script.specs.Text.{tag_of, full_text, cause_text, answer_words, content_body, shown_body, is_first_client, line_prefix, answer_text};
 
 use crate::piece::{Piece, ROOM};
 use crate::words::{push_line, push_text, put_mark, put_numbered, put_session};
 use qq_base::{Memory, SessionId, Text};
 use qq_entry::{Answer, Cause, Command, Content, Full, Shared};
 use std::alloc::Global;
-
-/// The number of a command with a stamp, and 0 of any other.
-pub fn seq_of(command: &Command) -> u64
-    ensures { result ≡ seq_of command.now }
-{
-    match command.stamp() {
-        None => 0,
-        Some(stamp) => stamp.seq,
-    }
-}
 
 pub fn tag_of(command: &Command) -> u32
     ensures { result ≡ tag_of command.now }
@@ -191,6 +181,6 @@ pub fn answer_text(
     let mut prefix = Vec::new(alloc);
     push_line_prefix(&mut prefix, first, command.session(), queue.as_str())?;
     let mut words = Piece::new();
-    let body = put_answer(&mut words, seq_of(command), tag_of(command), answer);
+    let body = put_answer(&mut words, command.seq_of(), tag_of(command), answer);
     push_line(out, &prefix, words.text(), body)
 }

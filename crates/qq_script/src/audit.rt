@@ -1,10 +1,11 @@
 ghost use Rattle.std.specs.Prelude.{◌≡◌, ◌+◌, ◌≤◌, ◌++◌, [], length, OnOk, IsOkUnless, OnErr, IfOk, map, codes};
 ghost use Rattle.std.specs.Fmt.{decimal};
 ghost use Rattle.qq_entry.specs.declared.command.DeadDone.{DeadDone};
-ghost use Rattle.qq_script.specs.Text.{answer_words, seq_of, tag_of};
+ghost use Rattle.qq_entry.specs.Command.{seq_of};
+ghost use Rattle.qq_script.specs.Text.{answer_words, tag_of};
 ghost use Rattle.qq_script.specs.Audit.{numbers_text, stamp_text, command_head, command_ids, again_text, row_text, audit_head_text, comma_before};
 
-use crate::answer::{put_answer_words, seq_of, tag_of};
+use crate::answer::{put_answer_words, tag_of};
 use crate::piece::Piece;
 use crate::words::{push_line, push_number, push_numbered, push_text, put_numbered, put_session};
 use qq_base::{Index, Memory, Text};
@@ -166,7 +167,7 @@ fn put_row_end(piece: &mut Piece, row: &AuditRow)
 {
     let command = row.entry.command.get();
     put_again(piece, row.fresh, &row.answer);
-    put_answer_words(piece, seq_of(command), tag_of(command), &row.answer);
+    put_answer_words(piece, command.seq_of(), tag_of(command), &row.answer);
     piece.put_text(" ");
 }
 

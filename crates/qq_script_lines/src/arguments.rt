@@ -14,7 +14,7 @@ use crate::numbers::{is_number, number_in, place_of, session_of, tag_of};
 use crate::words::{first_word, text_of};
 use qq_base::{NodeId, QueueId, SessionId, Text};
 use qq_entry::KEY_LIMIT;
-use qq_setup::Setup;
+use qq_route::Setup;
 use std::alloc::Global;
 
 /// No word.

@@ -9,7 +9,7 @@ use crate::names::{first_queue, queue_of};
 use crate::numbers::{ids_of, number_in, session_of, tag_of};
 use qq_base::{Ids, QueueId, SessionId};
 use qq_entry::{Mode, Unstamped};
-use qq_setup::Setup;
+use qq_route::Setup;
 use std::alloc::Global;
 
 // `S Q`.

@@ -9,7 +9,7 @@ use crate::fault::ScriptFault;
 use crate::line::Nodes;
 use crate::numbers::{is_number, number_in};
 use qq_base::{NodeId, QueueId};
-use qq_setup::{QueueRow, Setup};
+use qq_route::{QueueRow, Setup};
 
 fn is_named(word: &str, row: &QueueRow) -> bool
     ensures { result ≡ named word.now row.now }

@@ -13,7 +13,7 @@ use crate::commands::client_line;
 use crate::fault::ScriptFault;
 use crate::line::{LINE_LIMIT, Place, ScriptLine};
 use crate::words::{first_word, words_behind};
-use qq_setup::Setup;
+use qq_route::Setup;
 use std::alloc::Global;
 
 fn is_text(bytes: &[u8]) -> bool

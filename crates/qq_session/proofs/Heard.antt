@@ -3,12 +3,12 @@ use Rattle.std.proofs.Common.{◌≡◌, ℕ, Bool, true, false, cond, List, [],
 use Rattle.std.specs.Prelude.{filter, nat_eq}
 use Rattle.std.proofs.lemmas.Bool.{false≢true, cond-true, cond-false, eq-eqb, ne_eqb}
 use Rattle.qq_entry.specs.declared.audit.AuditRow.{AuditRow}
-use Rattle.qq_script.specs.Text.{seq_of}
 use Rattle.qq_session.specs.Arriving.{Deed, after_deed}
 use Rattle.qq_session.specs.Publishing.{Numbers, answer}
 use Rattle.qq_session.specs.Deeds.{take_of, is_sent_by, takes_of, after_deeds}
 use Rattle.qq_session.specs.Clients.{Client, Clients, sender, take_answer, hear_by, hear, hear_all}
 use Rattle.qq_base.proofs.Puts.{put-each}
+use Rattle.qq_entry.specs.Command.{seq_of}
 
 pub deeds-append : (first second : List Deed) (n : Numbers)
     → after_deeds (first ++ second) n ≡ after_deeds second (after_deeds first n)

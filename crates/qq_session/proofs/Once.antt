@@ -29,7 +29,8 @@ use Rattle.qq_session.proofs.AuditRows.{RowAt, row_at, filter_map-append}
 use Rattle.qq_session.specs.ExactlyOne.{ExactlyOne}
 use Rattle.qq_session.specs.Printed.{IsAnswer, IsAudited, IsConfirmedPublish, IsConfirmedOnce}
 use Rattle.qq_session.specs.Clients.{sender, sender_by, ended_by}
-use Rattle.qq_session.specs.Shown.{Shown, Answered, Delivered, NoLeader, WindowFull, HasEnded, NotTaken, Attached, IsBusy, Taken, Dropped}
+use Rattle.qq_session.specs.declared.shown.Shown.{Shown}
+use Rattle.qq_session.specs.declared.shown.Shown.TheVariants.{Answered, Delivered, NoLeader, WindowFull, HasEnded, NotTaken, Attached, IsBusy, Taken, Dropped}
 use Rattle.qq_session.proofs.Confirming.{IsEnqueue, confirmed-enqueue}
 
 -- ---- places in a list

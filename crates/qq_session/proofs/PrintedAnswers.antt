@@ -11,7 +11,9 @@ use Rattle.qq_session.proofs.AuditRows.{Contains-middle}
 use Rattle.qq_base.specs.Fronts.{IsFront}
 use Rattle.qq_session.specs.Printed.{IsAnswer, IsAudited}
 use Rattle.qq_session.specs.Clients.{Clients, sender, ended_by, tells_end, hear, is_printed_by, is_printed, printed}
-use Rattle.qq_session.specs.Shown.{Shown, Answered, Delivered, NoLeader, WindowFull, HasEnded, NotTaken, Attached, IsBusy, Taken, Dropped, said_of}
+use Rattle.qq_session.specs.declared.shown.Shown.{Shown}
+use Rattle.qq_session.specs.declared.shown.Shown.TheVariants.{Answered, Delivered, NoLeader, WindowFull, HasEnded, NotTaken, Attached, IsBusy, Taken, Dropped}
+use Rattle.qq_session.specs.Shown.{said_of}
 
 pub each-contained : {A : Type 0} (xs : List A) → AllByRecursion (Contains xs) xs
 each-contained [] = tt

@@ -8,10 +8,9 @@ use Rattle.qq_entry.specs.declared.command.Command.{Command}
 use Rattle.qq_entry.specs.declared.command.Command.TheVariants as commands
 use Rattle.qq_entry.specs.declared.audit.AuditRow.{AuditRow}
 use Rattle.qq_entry.specs.declared.queue.QueueArgs.{QueueArgs}
-use Rattle.qq_entry.specs.Command.{stamp}
+use Rattle.qq_entry.specs.Command.{seq_of, stamp}
 use Rattle.qq_model.specs.declared.TheConstants.{WINDOW}
 use Rattle.qq_session.specs.Publishing.{Numbers, new_numbers, is_open, answer}
-use Rattle.qq_script.specs.Text.{seq_of}
 use Rattle.qq_base.specs.Fronts.{put}
 use Rattle.qq_entry.specs.declared.command.Command.TheVariants.{Down}
 

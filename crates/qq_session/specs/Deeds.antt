@@ -2,9 +2,9 @@
 use Rattle.std.specs.Prelude.{ℕ, List, [], ◌∷◌, Bool, false, Option, Some, None, filter, map, nat_eq, if◌then◌else◌}
 use Rattle.qq_entry.specs.declared.audit.AuditRow.{AuditRow}
 use Rattle.qq_session.specs.Publishing.{Numbers}
-use Rattle.qq_script.specs.Text.{seq_of}
 use Rattle.qq_session.specs.Arriving.{Deed, Takes, after_deed}
 use Rattle.qq_session.specs.Clients.{Clients, sender}
+use Rattle.qq_entry.specs.Command.{seq_of}
 
 -- a session takes the answer of a row
 abbrev pub take_of : AuditRow → Deed

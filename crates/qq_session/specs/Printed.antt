@@ -4,9 +4,8 @@ use Rattle.qq_base.specs.Ids.{client}
 use Rattle.qq_base.specs.declared.ids.SessionId.{SessionId}
 use Rattle.qq_entry.specs.declared.command.Stamp.{Stamp}
 use Rattle.qq_entry.specs.declared.audit.AuditRow.{AuditRow}
-use Rattle.qq_entry.specs.Command.{stamp}
+use Rattle.qq_entry.specs.Command.{seq_of, stamp}
 use Rattle.qq_session.specs.Publishing.{closes}
-use Rattle.qq_script.specs.Text.{seq_of}
 use Rattle.qq_entry.specs.declared.answer.Answer.TheVariants.{Confirmed}
 use Rattle.qq_entry.specs.declared.command.Command.TheVariants.{Enqueue, Down}
 use Rattle.qq_entry.specs.declared.message.Message.{Message}
@@ -14,7 +13,8 @@ use Rattle.qq_entry.specs.declared.message.Origin.{Origin}
 use Rattle.qq_session.specs.ExactlyOne.{ExactlyOne}
 use Rattle.qq_session.specs.Deeds.{is_sent_by}
 use Rattle.qq_session.specs.Clients.{Clients, sender, ended_by, is_printed}
-use Rattle.qq_session.specs.Shown.{Shown, Answered}
+use Rattle.qq_session.specs.declared.shown.Shown.{Shown}
+use Rattle.qq_session.specs.declared.shown.Shown.TheVariants.{Answered}
 
 -- a row of an audit that answers a command of a client, or the end of its session
 pub record IsAnswer (audit : List AuditRow) (row : AuditRow) : Type 0 where

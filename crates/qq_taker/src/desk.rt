@@ -5,7 +5,7 @@ ghost use Rattle.qq_taker.specs.Takers.{Free, Gone, IsOffered, LooksAt, drop_at,
 use crate::handed::Handed;
 use crate::heard::{Heard, Refusal, What};
 use crate::taker::{Taker, Verdict};
-use qq_base::{Duplicate, Memory, QueueId};
+use qq_base::{ConsumerId, Duplicate, Memory, QueueId};
 use qq_entry::{AuditRow, Delivery};
 use std::alloc::Global;
 use std::marker::Model;
@@ -112,19 +112,18 @@ fn keep_delivery(
     alloc: Global,
     kept: &mut Vec<Heard>,
     queue: QueueId,
-    handed: &Handed,
+    consumer: ConsumerId,
+    delivery: &Delivery,
 ) -> Result<(), Memory>
-    ensures ok { OnOk result (kept.new.items
-        ≡ kept.old.items ++ record { queue = queue; what = whats.Delivery handed.now } ∷ []) }
+    ensures ok { OnOk result (kept.new.items ≡ kept.old.items ++ record {
+      queue = queue;
+      what = whats.Delivery (record { consumer = consumer; delivery = delivery.now });
+    } ∷ []) }
     ensures err { OnErr result (kept.new.items ≡ kept.old.items) }
     ensures want { IsOkUnless result Memory.Want }
 {
-    let delivery = handed.delivery.copy(alloc)?;
-    let handed = Handed {
-        consumer: handed.consumer,
-        delivery,
-    };
-    keep(kept, queue, What::Delivery(handed))
+    let delivery = delivery.copy(alloc)?;
+    keep(kept, queue, What::Delivery(Handed { consumer, delivery }))
 }
 
 /// The takers of a run, under the numbers 1, 2, 3 and so on. Each may be given to one consumer, once.
@@ -270,16 +269,19 @@ impl<T: Taker> Desk<T> {
         &mut self,
         alloc: Global,
         queue: QueueId,
-        handed: &Handed,
+        consumer: ConsumerId,
+        delivery: &Delivery,
     ) -> Result<(), Memory>
-        ensures ok { OnOk result (self.new
-            ≡ hear (record { queue = queue; what = whats.Delivery handed.now }) self.old) }
+        ensures ok { OnOk result (self.new ≡ hear (record {
+          queue = queue;
+          what = whats.Delivery (record { consumer = consumer; delivery = delivery.now });
+        }) self.old) }
         ensures err { OnErr result (self.new ≡ self.old) }
         ensures want { IsOkUnless result Memory.Want }
     {
         match &mut self.heard {
             None => Ok(()),
-            Some(kept) => keep_delivery(alloc, kept, queue, handed),
+            Some(kept) => keep_delivery(alloc, kept, queue, consumer, delivery),
         }
     }
 

@@ -1,6 +1,6 @@
 use Rattle.std.proofs.lemmas.Result.{on_ok_weaker}
 use Rattle.qq_script_lines.specs.declared.line.ScriptLine.TheVariants as lines
-use Rattle.qq_cluster.specs.Lines.{IsLine}
+use Rattle.qq_cluster_model.specs.Lines.{IsLine}
 use Rattle.qq_broker.proofs.Asked.{all-given-up, all-served, just-served, nothing-served, want-given-up}
 use Rattle.qq_broker.proofs.Bodies.{body-stamps}
 use Rattle.qq_broker.proofs.GoingOn.{can-serve, node-there, queue-there}

@@ -1,5 +1,6 @@
 use Rattle.std.proofs.Common.{◌∙◌, ap, ◌++◌, ◌∷◌, ◌≡◌, List, arith}
 use Rattle.std.proofs.lemmas.List.{nil_from_length}
+use Rattle.qq_base.proofs.Exits.{at_exit}
 use Rattle.qq_script_lines.specs.declared.line.ScriptLine.{ScriptLine}
 use Rattle.qq_cluster_run.specs.Drilling.{know}
 use Rattle.qq_cluster_run.specs.Serving.{cluster_in, setup_in}
@@ -28,8 +29,9 @@ play_line-requires-clause-plays g c = λ lifetimes bounds.
       (run_with run on.so.more, (know (setup_in s run) (cluster_in s run) on.so.more p.1.1.0, on.so.plays)),
     ))
 
-pub returns-in-Err-clause-cause : goal.returns-in-Err-clause-cause
-returns-in-Err-clause-cause g c = λ given run k so.
+pub returns-in_err-play_line-clause-cause : goal.returns-in_err-play_line-clause-cause
+returns-in_err-play_line-clause-cause g c =
+    λ given run k so. at_exit _ _ c.from_residual.ensures.1
     (let disk = g.Y.Disk.NodeDisk in
     let yards = g.Y.Yard.faults in
     let s = c.args.setup.now in
@@ -39,8 +41,8 @@ returns-in-Err-clause-cause g c = λ given run k so.
     on.are ∙ ap (λ (l : List ScriptLine). on.done ++ l) c.in-Some.ensures.steps.0 in
     lines-stop given disk.facts s (yards c.args.yard.now) (yards c.lines.yard) (yards c.play_line.new.yard)
     c.lines.invariant.later run c.args.lines.items on.done c.in-Some.line rest k c.lines.nodes
-    c.lines.told c.lines.play c.in-Err.stop all on.so
-    (c.in-Err.ensures.cause given (run_with run on.so.more) (know (setup_in s run) (cluster_in s run) on.so.more k)
+    c.lines.told c.lines.play c.in_err-play_line.field-0.0 all on.so
+    (c.in_err-play_line.ensures.cause given (run_with run on.so.more) (know (setup_in s run) (cluster_in s run) on.so.more k)
     on.so.plays))
 
 pub lines-preserved : goal.lines-preserved
@@ -50,7 +52,7 @@ lines-preserved g c =
       go = lines-go disk.facts c.args.setup.now c.args.lines.items c.lines.line-iterator.rest.items
           c.next.new.self.rest.items c.in-Some.line c.args.nodes.now c.lines.nodes c.play_line.new.nodes c.args.told.now
           c.lines.told c.play_line.new.told c.args.play.now c.lines.play c.play_line.new.play c.in-Some.ensures.steps.0
-          c.lines.invariant.go c.in_default.ensures.ok;
+          c.lines.invariant.go c.in_ok-play_line.ensures.ok;
       later = omega (arith, c.lines.invariant.later, c.play_line.ensures.later);
     }
 

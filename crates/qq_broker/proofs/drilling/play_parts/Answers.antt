@@ -1,5 +1,6 @@
 use Rattle.std.proofs.Common.{◌+◌, List, drop, take, subst, arith}
 use Rattle.std.proofs.lemmas.List.{take_all, take_more}
+use Rattle.qq_base.proofs.Exits.{at_exit}
 use Rattle.qq_cluster_run.specs.declared.drilling.Part.{Part}
 use Rattle.qq_broker.specs.Drilling.{PartsDone, run_with}
 use Rattle.qq_broker.proofs.DrillLoops.{parts-go, parts-split}
@@ -14,8 +15,9 @@ play_part-requires-clause-plays g c = λ lifetimes bounds.
       (run_with p.1.0 on.more, (on.later, on.plays)),
     ))
 
-pub returns-in-Err-clause-cause : goal.returns-in-Err-clause-cause
-returns-in-Err-clause-cause g c = λ given run k so.
+pub returns-in_err-play_part-clause-cause : goal.returns-in_err-play_part-clause-cause
+returns-in_err-play_part-clause-cause g c =
+    λ given run k so. at_exit _ _ c.from_residual.ensures.1
     (let disk = g.Y.Disk.NodeDisk in
     let yards = g.Y.Yard.faults in
     let list = c.args.parts.now in
@@ -23,8 +25,8 @@ returns-in-Err-clause-cause g c = λ given run k so.
     let on = c.parts.invariant.go given run k so in
     parts-stop given disk.facts c.args.setup.now (yards c.args.yard.now) (yards c.parts.yard)
     (yards c.play_part.new.yard) c.parts.invariant.later run list (take i list) _ (drop (i + 1) list) k
-    c.parts.nodes c.parts.told c.parts.play c.in-Err.stop (parts-split list i _ (omega (arith, c.parts-test.true))) on
-    (c.in-Err.ensures.cause given (run_with run on.more) on.later on.plays))
+    c.parts.nodes c.parts.told c.parts.play c.in_err-play_part.field-0.0 (parts-split list i _ (omega (arith, c.parts-test.true))) on
+    (c.in_err-play_part.ensures.cause given (run_with run on.more) on.later on.plays))
 
 pub parts-preserved : goal.parts-preserved
 parts-preserved g c =
@@ -36,7 +38,7 @@ parts-preserved g c =
           c.play_part.new.nodes c.args.told.now c.parts.told
           c.play_part.new.told c.args.play.now c.parts.play c.play_part.new.play
           (take_more list i _ (omega (arith, c.parts-test.true)))
-          c.parts.invariant.go c.in_default.ensures.ok;
+          c.parts.invariant.go c.in_ok-play_part.ensures.ok;
       later = omega (arith, c.parts.invariant.later, c.play_part.ensures.later);
     }
 

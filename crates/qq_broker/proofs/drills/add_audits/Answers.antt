@@ -33,12 +33,12 @@ loop-row-preserved g c =
           (λ given run h. c.as_slice.ensures.value
           ∙ row-adds disk.facts s c.args.nodes.now rows i row c.new-text.result.items c.audit_text.new.text.items
           c.requires.may (c.as_slice-rows.ensures, c.loop-row-test.true, c.row-item.is)
-          (λ setup d st. c.in_default.ensures.ok setup d c.args.nodes.now refl st) given run h
+          (λ setup d st. c.in_ok-audit_text.ensures.ok setup d c.args.nodes.now refl st) given run h
           ∙ ap (λ (l : List ℕ). l ++ row_audit (cluster_in s run) row) c.new-text.ensures.items)
           c.update.ensures;
       tallies = tallies-more disk.facts s c.args.nodes.now c.args.tally.now c.loop-row.tally c.count_rows.new.tally rows
           i row c.loop-row-test.true c.row-item.is c.loop-row.invariant.tallies
-          (λ given run h. c.in_default-count_rows.ensures.ok (setup_in s run) (cluster_in s run) h.stands);
+          (λ given run h. c.in_ok-count_rows.ensures.ok (setup_in s run) (cluster_in s run) h.stands);
     }
 
 pub returns-clause-digest : goal.returns-clause-digest

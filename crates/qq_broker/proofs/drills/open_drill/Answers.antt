@@ -1,5 +1,5 @@
 use Rattle.std.proofs.Common.{None, ap, inl}
-use Rattle.qq_cluster.specs.Outcome.{Outcome}
+use Rattle.qq_cluster_model.specs.Outcome.{Outcome}
 use Rattle.qq_cluster_run.proofs.Beginnings.{keeps-all}
 use Rattle.qq_ports.specs.Streams.{sink_state}
 use Rattle.qq_broker.specs.Lives.{under}

@@ -1,8 +1,8 @@
 use Rattle.std.proofs.Common.{List, arith, length, sym, subst}
 use Rattle.std.specs.Prelude.{All}
 use Rattle.qq_cluster_run.specs.Setup.{cluster_setup}
-use Rattle.qq_setup.specs.declared.queue_row.QueueRow.{QueueRow}
-use Rattle.qq_nodes.specs.Setting.{AreNew, IsRow, IsSetupOver}
+use Rattle.qq_route.specs.declared.queue_row.QueueRow.{QueueRow}
+use Rattle.qq_cluster.specs.Setting.{AreNew, IsRow, IsSetupOver}
 use Rattle.qq_broker.proofs.Beginning.{is-set, rows-range, unopened}
 use Rattle.qq_broker.proofs.opening.begin_over.Goals as goal
 

@@ -1,6 +1,6 @@
 use Rattle.std.proofs.Common.{◌≡◌, ◌+◌, ℕ, ap, arith, length, true, ◌∙◌}
 use Rattle.std.specs.Prelude.{option_map}
-use Rattle.qq_nodes.specs.Setting.{IsWhole}
+use Rattle.qq_cluster.specs.Setting.{IsWhole}
 use Rattle.qq_broker.proofs.Beginning.{given-more, opened-whole, whole-more}
 use Rattle.qq_broker.proofs.opening.disks_of.Goals as goal
 

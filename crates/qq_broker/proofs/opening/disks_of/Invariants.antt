@@ -1,6 +1,6 @@
 use Rattle.std.proofs.Common.{◌≡◌, ◌≤◌, length}
 use Rattle.std.specs.Prelude.{All, option_map}
-use Rattle.qq_nodes.specs.Setting.{IsWhole}
+use Rattle.qq_cluster.specs.Setting.{IsWhole}
 use Rattle.qq_broker.specs.Lives.{under}
 use Rattle.qq_broker.specs.Serving.{AreGiven}
 use Rattle.qq_broker.proofs.opening.disks_of.Given as goal

@@ -1,6 +1,6 @@
 use Rattle.std.proofs.Common.{◌≡◌, ℕ, List, [], inl, inr, refl, subst, arith}
 use Rattle.qq_ports.specs.Streams.{sink_state, source_state}
-use Rattle.qq_cluster.specs.Outcome.{Outcome}
+use Rattle.qq_cluster_model.specs.Outcome.{Outcome}
 use Rattle.qq_cluster_run.proofs.Beginnings.{closed-at-once}
 use Rattle.qq_cluster_run.proofs.Closings.{unopened_earlier}
 use Rattle.qq_cluster_run.specs.Runs.{MayNotOpen}

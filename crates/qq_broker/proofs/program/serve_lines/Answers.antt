@@ -4,7 +4,7 @@ use Rattle.qq_ports.specs.Streams.{sink_state, streams}
 use Rattle.qq_cluster_run.proofs.Closings.{Rose_earlier}
 use Rattle.qq_cluster_run.proofs.Looping.{loops_start}
 use Rattle.qq_taker.specs.Takers.{Takers}
-use Rattle.qq_cluster.specs.Outcome.{Outcome}
+use Rattle.qq_cluster_model.specs.Outcome.{Outcome}
 use Rattle.qq_broker.specs.Takers.{HoldsAll, RunClaims, RunHad}
 use Rattle.qq_broker.proofs.Gone.{so-at}
 use Rattle.qq_broker.proofs.GivenFree.{opened-all}

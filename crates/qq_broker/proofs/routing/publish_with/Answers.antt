@@ -3,7 +3,7 @@ use Rattle.qq_entry.specs.Message.{new_message}
 use Rattle.qq_entry.specs.declared.command.Unstamped.TheVariants.{Enqueue}
 use Rattle.qq_entry.specs.declared.message.Death.{Death}
 use Rattle.qq_entry.specs.declared.message.Message.{Message}
-use Rattle.qq_cluster_queue.specs.Range.{MayStamp}
+use Rattle.qq_queue.specs.Range.{MayStamp}
 use Rattle.qq_broker.proofs.Bodies.{publish-stamps}
 use Rattle.qq_broker.proofs.routing.publish_with.Goals as goal
 

@@ -1,4 +1,5 @@
 use Rattle.std.proofs.Common.{◌++◌, arith}
+use Rattle.qq_base.proofs.Exits.{at_exit}
 use Rattle.qq_broker.specs.Serving.{crashes, with_events}
 use Rattle.qq_broker.proofs.Crashes.{crashed-all, crashed-more, crashed-none, yard-earlier}
 use Rattle.qq_broker.proofs.GoingOn.{node-in}
@@ -24,17 +25,18 @@ crash_one-requires-clause-holds g c = λ lifetimes bounds.
       ),
     ))
 
-pub returns-in-Err-clause-cause : goal.returns-in-Err-clause-cause
-returns-in-Err-clause-cause g c = record {
+pub returns-in_err-crash_one-clause-cause : goal.returns-in_err-crash_one-clause-cause
+returns-in_err-crash_one-clause-cause g c = record {
   later = omega (arith, c.nodes.invariant.later, c.crash_one.ensures.cause.later);
-  cause = yard-earlier _ _ _ c.in-Err.fault c.nodes.invariant.later c.in-Err.ensures.cause.cause;
+  cause = at_exit _ _ c.from_residual.ensures.1 (yard-earlier _ _ _ c.in_err-crash_one.field-0.0 c.nodes.invariant.later
+      c.in_err-crash_one.ensures.cause.cause);
 }
 
 pub nodes-preserved : goal.nodes-preserved
 nodes-preserved g c = record {
   crashed = λ given. crashed-more given g.Y.Disk.NodeDisk.facts c.args.image.now c.nodes.before c.args.nodes.now _ _
       (c.nodes.invariant.crashed given)
-      (c.in_default.ensures.ok given);
+      (c.in_ok-crash_one.ensures.ok given);
   later = omega (arith, c.nodes.invariant.later, c.crash_one.ensures.cause.later);
 }
 

@@ -1,6 +1,6 @@
 use Rattle.std.proofs.Common.{ap, refl, subst, ◌∙◌}
 use Rattle.std.specs.Global.{Vec}
-use Rattle.qq_cluster.specs.Outcome.{Outcome}
+use Rattle.qq_cluster_model.specs.Outcome.{Outcome}
 use Rattle.qq_broker.specs.Takers.{AsksFree, IsGoneCaused}
 use Rattle.qq_broker.proofs.Stepped.{has-stepped}
 use Rattle.qq_broker.proofs.stepping.step.Goals as goal

@@ -1,5 +1,5 @@
 use Rattle.std.proofs.Common.{List, subst}
-use Rattle.qq_cluster.specs.Cluster.{ClusterEvent, new_cluster}
+use Rattle.qq_cluster_model.specs.Cluster.{ClusterEvent, new_cluster}
 use Rattle.qq_cluster_run.specs.Serving.{setup_behind}
 use Rattle.qq_broker.specs.Takers.{AreFree}
 use Rattle.qq_broker.proofs.GivenFree.{given-free}

@@ -1,5 +1,5 @@
 use Rattle.std.proofs.Common.{ℕ, subst}
-use Rattle.qq_cluster.specs.Rules.{Pumps}
+use Rattle.qq_cluster_model.specs.Rules.{Pumps}
 use Rattle.qq_cluster_pins.proofs.Rounds.{idle-from, pumps, still-from}
 use Rattle.qq_cluster_pins.proofs.counts.a_pump_makes_10000_rounds.Goals as goal
 

@@ -1,10 +1,10 @@
 use Rattle.std.proofs.Common.{sym, ap, ◌∙◌}
 use Rattle.qq_model.proofs.Soundness.{Contains-in}
 use Rattle.qq_script_lines.specs.declared.line.ScriptLine.TheVariants.{Pump}
-use Rattle.qq_cluster.specs.Cluster.{Fails, FindsEach}
-use Rattle.qq_cluster.specs.ClusterLaws.{findings, has_failure, verdicts}
-use Rattle.qq_cluster.specs.Example.{setup_of}
-use Rattle.qq_cluster.specs.Serving.{pump}
+use Rattle.qq_cluster_model.specs.Cluster.{Fails, FindsEach}
+use Rattle.qq_cluster_model.specs.ClusterLaws.{findings, has_failure, verdicts}
+use Rattle.qq_cluster_model.specs.Example.{setup_of}
+use Rattle.qq_cluster_model.specs.Serving.{pump}
 use Rattle.qq_cluster_pins.proofs.Faults.{fine-from, found-none}
 use Rattle.qq_cluster_pins.proofs.Worked.{fine as made-fine, none-found, none-given, none-judged, pump-is, pump-line, standing}
 use Rattle.qq_cluster_pins.proofs.counts.a_round_goes_node_by_node.Goals as goal

@@ -1,11 +1,11 @@
 use Rattle.qq_base.proofs.Lists.{AllByRecursion-in}
 use Rattle.qq_model.proofs.Soundness.{in_contains}
 use Rattle.qq_session.specs.Printed.{IsAnswer, IsAudited}
-use Rattle.qq_session.specs.Shown.{Answered, Delivered, Taken}
-use Rattle.qq_cluster.specs.Cluster.{Of, all_prints, cluster_after, new_cluster}
-use Rattle.qq_cluster.specs.ClusterLaws.{IsTrueOf}
-use Rattle.qq_cluster.specs.Laws.{queue_after}
-use Rattle.qq_cluster.specs.Queue.{all_said, audit_rows, begin}
+use Rattle.qq_session.specs.declared.shown.Shown.TheVariants.{Answered, Delivered, Taken}
+use Rattle.qq_cluster_model.specs.Cluster.{Of, all_prints, cluster_after, new_cluster}
+use Rattle.qq_cluster_model.specs.ClusterLaws.{IsTrueOf}
+use Rattle.qq_cluster_model.specs.Laws.{queue_after}
+use Rattle.qq_cluster_model.specs.Queue.{all_said, audit_rows, begin}
 use Rattle.qq_cluster_pins.proofs.ends.an_answer_is_to_a_client.Goals as goal
 
 pub returns-clause-queue : goal.returns-clause-queue

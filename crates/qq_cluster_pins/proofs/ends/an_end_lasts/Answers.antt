@@ -1,7 +1,7 @@
 use Rattle.std.proofs.Common.{ℕ, Bool, Option, subst}
-use Rattle.qq_cluster.specs.Cluster.{At}
-use Rattle.qq_cluster.specs.Queue.{TellsEnded}
-use Rattle.qq_cluster.specs.Rules.{Is, IsClaimed, if_so, is_ended, not_taken}
+use Rattle.qq_cluster_model.specs.Cluster.{At}
+use Rattle.qq_cluster_model.specs.Queue.{TellsEnded}
+use Rattle.qq_cluster_model.specs.Rules.{Is, IsClaimed, if_so, is_ended, not_taken}
 use Rattle.qq_cluster_pins.proofs.Bounds.{some-waits}
 use Rattle.qq_cluster_pins.proofs.ends.an_end_lasts.Goals as goal
 

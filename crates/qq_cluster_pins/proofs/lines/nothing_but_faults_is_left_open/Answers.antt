@@ -1,8 +1,8 @@
 use Rattle.std.proofs.Common.{refl, sym, ◌∙◌}
 use Rattle.qq_model.proofs.Soundness.{Contains-in, in_contains}
-use Rattle.qq_cluster.specs.Cluster.{At, Fails, FindsEach, new_cluster}
-use Rattle.qq_cluster.specs.Queue.{Judges}
-use Rattle.qq_cluster.specs.Serving.{all_given, run}
+use Rattle.qq_cluster_model.specs.Cluster.{At, Fails, FindsEach, new_cluster}
+use Rattle.qq_cluster_model.specs.Queue.{Judges}
+use Rattle.qq_cluster_model.specs.Serving.{all_given, run}
 use Rattle.qq_cluster_pins.proofs.Faults.{fine-from, found-none, from-fine, verdicts-none}
 use Rattle.qq_cluster_pins.proofs.lines.nothing_but_faults_is_left_open.Goals as goal
 

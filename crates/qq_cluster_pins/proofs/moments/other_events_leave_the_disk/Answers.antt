@@ -1,5 +1,5 @@
 use Rattle.std.proofs.lemmas.Bool.{ne_eqb}
-use Rattle.qq_cluster.specs.Cluster.{Crashes, Fails, FindsEach, NodeSyncs, NodeWrites}
+use Rattle.qq_cluster_model.specs.Cluster.{Crashes, Fails, FindsEach, NodeSyncs, NodeWrites}
 use Rattle.qq_cluster_pins.proofs.Times.{others-keep}
 use Rattle.qq_cluster_pins.proofs.moments.other_events_leave_the_disk.Goals as goal
 

@@ -1,4 +1,4 @@
-use Rattle.qq_cluster.specs.Cluster.{cluster_after, new_cluster}
+use Rattle.qq_cluster_model.specs.Cluster.{cluster_after, new_cluster}
 use Rattle.qq_cluster_pins.proofs.Fresh.{one-log}
 use Rattle.qq_cluster_pins.proofs.openings.an_opening_leaves_one_log.Goals as goal
 

@@ -1,7 +1,7 @@
 use Rattle.qq_base.proofs.Lists.{AllByRecursion-in}
 use Rattle.qq_model.proofs.Soundness.{in_contains}
-use Rattle.qq_cluster.specs.Laws.{IsOwnTo}
-use Rattle.qq_cluster.specs.Queue.{own_rows}
+use Rattle.qq_cluster_model.specs.Laws.{IsOwnTo}
+use Rattle.qq_cluster_model.specs.Queue.{own_rows}
 use Rattle.qq_cluster_pins.proofs.queues.a_queue_notices_and_answers.Goals as goal
 
 pub returns-clause-own : goal.returns-clause-own

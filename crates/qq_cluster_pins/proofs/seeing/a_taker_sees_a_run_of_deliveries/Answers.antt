@@ -1,6 +1,6 @@
 use Rattle.std.proofs.Common.{refl}
-use Rattle.qq_cluster.specs.Queue.{consumer_of}
-use Rattle.qq_cluster.specs.Laws.{queue_after}
+use Rattle.qq_cluster_model.specs.Queue.{consumer_of}
+use Rattle.qq_cluster_model.specs.Laws.{queue_after}
 use Rattle.qq_cluster_pins.proofs.Looking.{new-taker}
 use Rattle.qq_cluster_pins.proofs.seeing.a_taker_sees_a_run_of_deliveries.Goals as goal
 

@@ -1,5 +1,5 @@
 use Rattle.std.proofs.Common.{Some, refl}
-use Rattle.qq_cluster.proofs.Outcomes.{takers-at, takers-both}
+use Rattle.qq_cluster_model.proofs.Outcomes.{takers-at, takers-both}
 use Rattle.qq_cluster_pins.proofs.Looking.{others-unseen, unheard}
 use Rattle.qq_cluster_pins.proofs.seeing.takers_see_what_is_shown.Goals as goal
 

@@ -1,9 +1,9 @@
 use Rattle.std.proofs.Common.{[], ◌∷◌, refl}
 use Rattle.qq_entry.specs.declared.command.Unstamped.TheVariants as bodies
 use Rattle.qq_taker.specs.declared.taker.Verdict.TheVariants.{Discard, Return, Settle}
-use Rattle.qq_cluster.specs.Cluster.{At, cluster_after, cluster_happens}
-use Rattle.qq_cluster.specs.Queue.{Judges}
-use Rattle.qq_cluster.proofs.Takerless.{told-nothing}
+use Rattle.qq_cluster_model.specs.Cluster.{At, cluster_after, cluster_happens}
+use Rattle.qq_cluster_model.specs.Queue.{Judges}
+use Rattle.qq_cluster_model.proofs.Takerless.{told-nothing}
 use Rattle.qq_cluster_pins.proofs.Asked.{asks-first, commanded, event-first, kept}
 use Rattle.qq_cluster_pins.proofs.takers.takers_are_asked_until_nothing_waits.Goals as goal
 

@@ -1,7 +1,7 @@
 use Rattle.std.proofs.Common.{ap, ◌∙◌, subst, List}
 use Rattle.std.specs.Prelude.{Bool, Contains, IsTrue}
 use Rattle.qq_base.specs.declared.ids.NodeId.{NodeId}
-use Rattle.qq_setup.specs.declared.queue_row.QueueRow.{QueueRow}
+use Rattle.qq_route.specs.declared.queue_row.QueueRow.{QueueRow}
 use Rattle.qq_cluster_run.specs.Setup.{members_by, row_at}
 use Rattle.qq_cluster_run.proofs.Checked.{member-there}
 use Rattle.qq_cluster_run.proofs.checking.is_served.Goals as goal

@@ -1,6 +1,6 @@
 use Rattle.std.proofs.Common.{List, ℕ, subst}
 use Rattle.qq_ports.specs.Streams.{shelf_state}
-use Rattle.qq_setup.specs.Setup.{state_of}
+use Rattle.qq_route.specs.Setup.{state_of}
 use Rattle.qq_defs.specs.Definitions.{document, read_setup as read_definitions}
 use Rattle.qq_defs.specs.Reading.{Fails}
 use Rattle.qq_cluster_run.specs.Definitions.{read_export}

@@ -1,5 +1,5 @@
 use Rattle.std.proofs.Common.{◌≡◌, ◌+◌, ◌≤◌, drop, length}
-use Rattle.qq_cluster.specs.Outcome.{deliveries_among}
+use Rattle.qq_cluster_model.specs.Outcome.{deliveries_among}
 use Rattle.qq_cluster_run.specs.Drilling.{hear_each}
 use Rattle.qq_cluster_run.proofs.playing.hear_each.Given as goal
 

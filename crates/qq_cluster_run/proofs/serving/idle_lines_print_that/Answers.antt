@@ -1,6 +1,6 @@
 use Rattle.std.proofs.Common.{◌∙◌, ap, append-nil}
-use Rattle.qq_cluster.specs.Lines.{IsLine}
-use Rattle.qq_cluster.specs.Texts.{text_of}
+use Rattle.qq_cluster_model.specs.Lines.{IsLine}
+use Rattle.qq_cluster_model.specs.Texts.{text_of}
 use Rattle.qq_cluster_run.proofs.serving.idle_lines_print_that.Goals as goal
 
 pub returns-clause-write : goal.returns-clause-write

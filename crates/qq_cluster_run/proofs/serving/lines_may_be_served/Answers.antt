@@ -1,6 +1,6 @@
 use Rattle.std.proofs.Common.{refl}
-use Rattle.qq_cluster.specs.Cluster.{new_cluster}
-use Rattle.qq_cluster.specs.Serving.{all_given, run}
+use Rattle.qq_cluster_model.specs.Cluster.{new_cluster}
+use Rattle.qq_cluster_model.specs.Serving.{all_given, run}
 use Rattle.qq_cluster_run.specs.Setup.{cluster_over, cluster_setup, new_logs}
 use Rattle.qq_cluster_run.proofs.Opening.{served-behind}
 use Rattle.qq_cluster_run.proofs.serving.lines_may_be_served.Goals as goal

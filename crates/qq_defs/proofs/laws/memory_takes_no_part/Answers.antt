@@ -1,4 +1,4 @@
-use Rattle.qq_setup.specs.Setup.{state_of}
+use Rattle.qq_route.specs.Setup.{state_of}
 use Rattle.qq_defs.proofs.Reading.{answer_is, want_is}
 use Rattle.qq_defs.proofs.laws.memory_takes_no_part.Goals as goal
 

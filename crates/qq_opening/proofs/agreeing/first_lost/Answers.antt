@@ -1,7 +1,7 @@
 use Rattle.std.proofs.Common.{arith, subst, sym}
-use Rattle.qq_cluster_queue.specs.Members.{AreSound}
-use Rattle.qq_cluster_queue.specs.declared.cluster_queue.ClusterQueue.{ClusterQueue}
-use Rattle.qq_nodes.proofs.Items.{item-here}
+use Rattle.qq_queue.specs.Members.{AreSound}
+use Rattle.qq_queue.specs.declared.cluster_queue.ClusterQueue.{ClusterQueue}
+use Rattle.qq_cluster.proofs.Items.{item-here}
 use Rattle.qq_opening.proofs.Agreed.{agree-all, agree-next, agree-none}
 use Rattle.qq_opening.proofs.agreeing.first_lost.Goals as goal
 

@@ -1,7 +1,7 @@
 use Rattle.std.proofs.Common.{List, refl, subst}
 use Rattle.std.specs.Prelude.{Contains}
 use Rattle.qq_base.specs.declared.ids.QueueId.{QueueId}
-use Rattle.qq_nodes.proofs.Items.{item-here}
+use Rattle.qq_cluster.proofs.Items.{item-here}
 use Rattle.qq_opening.proofs.Noticed.{noticed-at}
 use Rattle.qq_opening.proofs.agreeing.lost_on.Goals as goal
 

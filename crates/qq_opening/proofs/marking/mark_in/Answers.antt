@@ -1,6 +1,6 @@
 use Rattle.std.proofs.Common.{◌≡◌}
 use Rattle.std.specs.Prelude.{not}
-use Rattle.qq_nodes.proofs.Logged.{turns-back}
+use Rattle.qq_cluster.proofs.Logged.{turns-back}
 use Rattle.qq_opening.proofs.marking.mark_in.Goals as goal
 
 pub returns : goal.returns

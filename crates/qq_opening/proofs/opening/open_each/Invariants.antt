@@ -1,6 +1,6 @@
 use Rattle.std.specs.Prelude.{List}
-use Rattle.qq_nodes.specs.Setting.{AreNew}
-use Rattle.qq_setup.specs.declared.queue_row.QueueRow.{QueueRow}
+use Rattle.qq_cluster.specs.Setting.{AreNew}
+use Rattle.qq_route.specs.declared.queue_row.QueueRow.{QueueRow}
 use Rattle.qq_opening.specs.Opened.{OpenedTo}
 use Rattle.qq_opening.proofs.opening.open_each.Given as goal
 

@@ -1,5 +1,5 @@
 use Rattle.std.proofs.Common.{sym, ◌∙◌, arith}
-use Rattle.qq_nodes.proofs.Pumping.{node-of}
+use Rattle.qq_cluster.proofs.Pumping.{node-of}
 use Rattle.qq_opening.proofs.Reopened.{none-more, none-up, one-up}
 use Rattle.qq_opening.proofs.reopening.has_up.Goals as goal
 

@@ -1,6 +1,7 @@
 use Rattle.std.proofs.Common.{arith}
-use Rattle.qq_nodes.proofs.Pumping.{many-after, node-of}
-use Rattle.qq_nodes.proofs.Stands.{can-after}
+use Rattle.qq_base.proofs.Exits.{at_exit}
+use Rattle.qq_cluster.proofs.Pumping.{many-after, node-of}
+use Rattle.qq_cluster.proofs.Stands.{can-after}
 use Rattle.qq_opening.proofs.RefusedEach.{refuses-each}
 use Rattle.qq_opening.proofs.RestartedEach.{first-all, first-next, first-none}
 use Rattle.qq_opening.proofs.restarting.restart_each.Goals as goal
@@ -24,13 +25,13 @@ pub nodes-preserved : goal.nodes-preserved
 nodes-preserved g c =
     first-next c.nodes.at c.node_id-node.result c.node_id-node.ensures
     (let many = (many-after c.requires c.nodes.invariant).1 in omega (arith, many, c.len-count.ensures))
-    c.nodes.invariant c.in_default.ensures.ok
+    c.nodes.invariant c.in_ok-restart.ensures.ok
 
 pub returns-clause-ok : goal.returns-clause-ok
 returns-clause-ok g c = first-all c.nodes.at (omega (arith, c.len-count.ensures)) c.nodes.invariant
 
-pub returns-in-Err-clause-err : goal.returns-in-Err-clause-err
-returns-in-Err-clause-err g c =
-    refuses-each c.nodes.at c.node_id-node.result c.node_id-node.ensures
+pub returns-in_err-restart-clause-err : goal.returns-in_err-restart-clause-err
+returns-in_err-restart-clause-err g c =
+    at_exit _ _ c.from_residual.ensures.1 (refuses-each c.nodes.at c.node_id-node.result c.node_id-node.ensures
     (let many = (many-after c.requires c.nodes.invariant).1 in omega (arith, many, c.len-count.ensures))
-    c.nodes.invariant c.in-Err.ensures.err
+    c.nodes.invariant c.in_err-restart.ensures.err)

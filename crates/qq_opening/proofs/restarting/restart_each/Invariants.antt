@@ -1,4 +1,4 @@
-use Rattle.qq_nodes.specs.Nodes.{Served}
+use Rattle.qq_cluster.specs.Nodes.{Served}
 use Rattle.qq_opening.specs.Opened.{FirstTo}
 use Rattle.qq_opening.proofs.restarting.restart_each.Given as goal
 

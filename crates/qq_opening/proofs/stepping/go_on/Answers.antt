@@ -1,5 +1,6 @@
 use Rattle.std.proofs.Common.{arith, refl, subst, sym}
-use Rattle.qq_nodes.proofs.Items.{node-here}
+use Rattle.qq_base.proofs.Exits.{at_exit}
+use Rattle.qq_cluster.proofs.Items.{node-here}
 use Rattle.qq_node_log.specs.Found.{AreDistinct}
 use Rattle.qq_opening.specs.Taking.{MayTakeEach}
 use Rattle.qq_opening.proofs.GoingOn.{goes-on, stays-down}
@@ -26,16 +27,16 @@ take_up_each-requires-clause-apart g c =
     (c.requires.may.apart c.index-own.result.now
     (node-here c.args.nodes.now c.index-own.result.now c.args.node c.requires.may.place c.index-own.ensures))
 
-pub returns-in-Err-clause-cause : goal.returns-in-Err-clause-cause
-returns-in-Err-clause-cause g c =
-    stays-down c.args.node c.args.opens c.args.lanes.items c.args.nodes.now c.index-own.result.now
+pub returns-in_err-take_up_each-clause-cause : goal.returns-in_err-take_up_each-clause-cause
+returns-in_err-take_up_each-clause-cause g c =
+    at_exit _ _ c.from_residual.ensures.1 (stays-down c.args.node c.args.opens c.args.lanes.items c.args.nodes.now c.index-own.result.now
     (node-here c.args.nodes.now c.index-own.result.now c.args.node c.requires.may.place c.index-own.ensures)
-    c.deref.result.now c.deref.ensures.value c.handed_of-handed.result c.handed_of-handed.ensures c.in-Err.fault
-    c.in-Err.ensures.cause
+    c.deref.result.now c.deref.ensures.value c.handed_of-handed.result c.handed_of-handed.ensures c.in_err-take_up_each.field-0.0
+    c.in_err-take_up_each.ensures.cause)
 
 pub returns-clause-ok : goal.returns-clause-ok
 returns-clause-ok g c =
     goes-on c.args.node c.args.opens c.args.lanes.items c.args.nodes.now c.index-own.result.now
     (node-here c.args.nodes.now c.index-own.result.now c.args.node c.requires.may.place c.index-own.ensures)
     c.deref.result.now c.deref.ensures.value c.handed_of-handed.result c.handed_of-handed.ensures _
-    c.in_default.ensures.ok refl c.mark_in.ensures
+    c.in_ok-take_up_each.ensures.ok refl c.mark_in.ensures

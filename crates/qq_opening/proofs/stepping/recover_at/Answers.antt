@@ -1,6 +1,6 @@
 use Rattle.std.proofs.lemmas.Option.{slice_get-get_or}
 use Rattle.std.proofs.lemmas.Result.{IfErr-weaker, IfOk-weaker}
-use Rattle.qq_nodes.proofs.Logged.{node-turns}
+use Rattle.qq_cluster.proofs.Logged.{node-turns}
 use Rattle.qq_opening.proofs.stepping.recover_at.Goals as goal
 
 pub recover_own-requires-clause-own : goal.recover_own-requires-clause-own

@@ -1,7 +1,7 @@
 use Rattle.std.specs.Prelude.{slice_get, Some}
 use Rattle.std.proofs.Common.{◌≡◌, subst}
 use Rattle.std.proofs.lemmas.Result.{IfErr-weaker, IfOk-weaker}
-use Rattle.qq_nodes.proofs.Logged.{turns-back}
+use Rattle.qq_cluster.proofs.Logged.{turns-back}
 use Rattle.qq_opening.proofs.stepping.recover_in.Goals as goal
 
 pub recover_at-requires-clause-own : goal.recover_at-requires-clause-own

@@ -2,7 +2,7 @@ use Rattle.std.proofs.Common.{List, Option, Some, ap, refl, ◌∙◌}
 use Rattle.std.proofs.lemmas.Result.{IfErr-weaker, IfOk-weaker}
 use Rattle.qq_taker.specs.Takers.{hear_on}
 use Rattle.qq_taker.specs.declared.heard.Heard.{Heard}
-use Rattle.qq_cluster.specs.Outcome.{Outcome}
+use Rattle.qq_cluster_model.specs.Outcome.{Outcome}
 use Rattle.qq_broker.proofs.Calls.{call-given-up, has-called}
 use Rattle.qq_broker.proofs.GoingOn.{queue-there}
 use Rattle.qq_broker.proofs.broker.Broker.call.Goals as goal

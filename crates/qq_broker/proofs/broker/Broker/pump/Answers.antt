@@ -1,8 +1,8 @@
 use Rattle.std.proofs.Common.{refl}
-use Rattle.qq_cluster.specs.Rules.{IsPump}
+use Rattle.qq_cluster_model.specs.Rules.{IsPump}
 use Rattle.qq_script_lines.specs.declared.line.ScriptLine.TheVariants.{Pump}
 use Rattle.qq_cluster_run.specs.Serving.{setup_in}
-use Rattle.qq_nodes.proofs.Stands.{can-after}
+use Rattle.qq_cluster.proofs.Stands.{can-after}
 use Rattle.qq_broker.proofs.GoingOn.{can-serve, given-up}
 use Rattle.qq_broker.proofs.Stepped.{has-pumped, pump-line}
 use Rattle.qq_broker.proofs.broker.Broker.pump.Goals as goal

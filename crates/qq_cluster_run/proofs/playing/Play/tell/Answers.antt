@@ -1,5 +1,5 @@
 use Rattle.std.proofs.Common.{◌≡◌, ◌+◌, ℕ, ap, ◌∙◌, rules}
-use Rattle.qq_cluster.specs.Outcome.{deliveries_among}
+use Rattle.qq_cluster_model.specs.Outcome.{deliveries_among}
 use Rattle.qq_cluster_run.proofs.Plays.{told}
 use Rattle.qq_cluster_run.proofs.playing.Play.tell.Goals as goal
 

@@ -1,0 +1,10 @@
+mod ArgumentLaws
+mod RowLaws
+mod PayloadLaws
+mod FrameLaws
+mod FaultLaws
+mod ProtocolLaws
+mod ReaderLaws
+mod MoreLaws
+mod CallLaws
+mod SpellingLaws

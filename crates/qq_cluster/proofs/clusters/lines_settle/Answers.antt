@@ -1,8 +1,0 @@
-use Rattle.qq_cluster.proofs.Settling.{line-settles, run-settles}
-use Rattle.qq_cluster.proofs.clusters.lines_settle.Goals as goal
-
-pub returns-clause-line : goal.returns-clause-line
-returns-clause-line c = line-settles
-
-pub returns-clause-run : goal.returns-clause-run
-returns-clause-run c = run-settles

@@ -1,8 +1,0 @@
-use Rattle.qq_cluster.proofs.Stopping.{makes-no_round, rounds-are}
-use Rattle.qq_cluster.proofs.clusters.pumps_end.Goals as goal
-
-pub returns-clause-most : goal.returns-clause-most
-returns-clause-most c = rounds-are
-
-pub returns-clause-idle : goal.returns-clause-idle
-returns-clause-idle c = makes-no_round

@@ -1,5 +1,0 @@
-use Rattle.qq_cluster.proofs.Serving.{runs-served}
-use Rattle.qq_cluster.proofs.clusters.scripts_may_be_served.Goals as goal
-
-pub returns : goal.returns
-returns c = runs-served

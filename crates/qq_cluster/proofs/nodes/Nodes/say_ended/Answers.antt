@@ -1,0 +1,11 @@
+use Rattle.std.proofs.Common.{refl}
+use Rattle.std.proofs.lemmas.Result.{on_ok_weaker}
+use Rattle.qq_cluster_model.specs.Cluster.{SaysEnded}
+use Rattle.qq_cluster.proofs.OneQueue.{served-said}
+use Rattle.qq_cluster.proofs.nodes.Nodes.say_ended.Goals as goal
+
+pub returns-clause-ok : goal.returns-clause-ok
+returns-clause-ok g c =
+    on_ok_weaker c.write.result
+    (λ said. served-said SaysEnded c.args.self.now c.args.told.now c.write.new.self refl
+    (λ d place. refl) (λ d. refl) (λ d. refl) (λ setup d. said)) c.write.ensures.ok

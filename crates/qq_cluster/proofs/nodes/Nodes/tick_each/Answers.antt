@@ -1,0 +1,38 @@
+use Rattle.std.proofs.Common.{arith}
+use Rattle.qq_base.proofs.Exits.{at_exit}
+use Rattle.qq_cluster_model.specs.Cluster.{Setup}
+use Rattle.qq_cluster_model.specs.Rules.{IsFirstTick}
+use Rattle.qq_cluster.specs.Nodes.{places_in}
+use Rattle.qq_cluster.proofs.LineRules.{places-end, places-gave_up, places-more}
+use Rattle.qq_cluster.proofs.Ticked.{total-first_tick}
+use Rattle.qq_cluster.proofs.Pumping.{many-after}
+use Rattle.qq_cluster.proofs.Stands.{can-after, each-start}
+use Rattle.qq_cluster.proofs.nodes.Nodes.tick_each.Goals as goal
+
+pub places-init : goal.places-init
+places-init g c = each-start places_in (λ (setup : Setup). IsFirstTick setup) c.args.self.now c.args.told.now
+
+pub tick_first-requires-clause-serve : goal.tick_first-requires-clause-serve
+tick_first-requires-clause-serve g c = can-after c.requires c.places.invariant
+
+pub tick_first-requires-clause-place : goal.tick_first-requires-clause-place
+tick_first-requires-clause-place g c =
+    let many = (many-after c.requires c.places.invariant).0 in omega (arith, many, c.len-count.ensures)
+
+pub places-preserved : goal.places-preserved
+places-preserved g c =
+    places-more (λ (setup : Setup). IsFirstTick setup) c.places.at
+    (let many = (many-after c.requires c.places.invariant).0 in omega (arith, many, c.len-count.ensures))
+    c.places.invariant c.in_ok-tick_first.ensures.ok
+
+pub returns-clause-ok : goal.returns-clause-ok
+returns-clause-ok g c =
+    places-end (λ (setup : Setup). IsFirstTick setup) c.places.at
+    (let many = (many-after c.requires c.places.invariant).0 in omega (arith, many, c.len-count.ensures))
+    c.places.invariant
+
+pub returns-in_err-tick_first-clause-err : goal.returns-in_err-tick_first-clause-err
+returns-in_err-tick_first-clause-err g c =
+    at_exit _ _ c.from_residual.ensures.1 (places-gave_up (λ (setup : Setup). IsFirstTick setup) c.places.at total-first_tick
+    (let many = (many-after c.requires c.places.invariant).0 in omega (arith, many, c.len-count.ensures))
+    c.places.invariant c.in_err-tick_first.ensures.err)

@@ -1,8 +1,0 @@
-use Rattle.qq_cluster.proofs.Leads.{no-effects, rows-own}
-use Rattle.qq_cluster.proofs.queues.a_leader_answers_its_own_term.Goals as goal
-
-pub returns-clause-rows : goal.returns-clause-rows
-returns-clause-rows c = rows-own
-
-pub returns-clause-effects : goal.returns-clause-effects
-returns-clause-effects c = no-effects

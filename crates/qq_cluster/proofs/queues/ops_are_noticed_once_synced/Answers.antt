@@ -1,5 +1,0 @@
-use Rattle.qq_cluster.proofs.Counts.{counts-rise}
-use Rattle.qq_cluster.proofs.queues.ops_are_noticed_once_synced.Goals as goal
-
-pub returns : goal.returns
-returns c = counts-rise

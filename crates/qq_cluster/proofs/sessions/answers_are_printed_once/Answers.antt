@@ -1,5 +1,0 @@
-use Rattle.qq_cluster.proofs.PrintedOnce.{closes-once}
-use Rattle.qq_cluster.proofs.sessions.answers_are_printed_once.Goals as goal
-
-pub returns : goal.returns
-returns c = closes-once

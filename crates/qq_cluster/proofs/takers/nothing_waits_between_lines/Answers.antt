@@ -1,8 +1,0 @@
-use Rattle.qq_cluster.proofs.Judging.{line-leaves, run-leaves}
-use Rattle.qq_cluster.proofs.takers.nothing_waits_between_lines.Goals as goal
-
-pub returns-clause-line : goal.returns-clause-line
-returns-clause-line c = line-leaves
-
-pub returns-clause-run : goal.returns-clause-run
-returns-clause-run c = run-leaves

@@ -1,0 +1,14 @@
+pub mod Delivering
+pub mod Taking
+pub mod Outcome
+pub mod Queue
+pub mod Counts
+pub mod Cluster
+pub mod Texts
+pub mod Rules
+pub mod Lines
+pub mod Serving
+pub mod Confirmed
+pub mod Laws
+pub mod ClusterLaws
+pub mod Example

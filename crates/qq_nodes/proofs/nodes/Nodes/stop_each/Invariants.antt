@@ -1,7 +1,0 @@
-use Rattle.qq_nodes.proofs.Stopped.{StoppedTo}
-use Rattle.qq_nodes.proofs.nodes.Nodes.stop_each.Given as goal
-
--- the first nodes have stopped
-abbrev pub invariant-nodes : goal.invariant-nodes
-invariant-nodes g l =
-    StoppedTo g.D.NodeDisk.facts l.at l.fn.self l.self

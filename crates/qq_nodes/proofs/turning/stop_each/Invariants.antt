@@ -1,9 +1,0 @@
-use Rattle.std.specs.Prelude.{nat_lt}
-use Rattle.qq_cluster.specs.Queue.{Stops}
-use Rattle.qq_nodes.specs.Turning.{TurnsWhere}
-use Rattle.qq_nodes.proofs.turning.stop_each.Given as goal
-
--- the queues so far have stopped
-abbrev pub invariant-queues : goal.invariant-queues
-invariant-queues l =
-    TurnsWhere (λ at. nat_lt at l.at) (Stops l.node.0) l.fn.queues l.queues

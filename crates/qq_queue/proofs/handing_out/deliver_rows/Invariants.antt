@@ -1,0 +1,15 @@
+use Rattle.std.proofs.Common.{◌≡◌, ◌++◌, drop}
+use Rattle.qq_cluster_model.specs.Delivering.{come_all, hand_all}
+use Rattle.qq_queue.specs.Members.{effects_in}
+use Rattle.qq_queue.specs.Sessions.{clients_of, no_numbers, standings}
+use Rattle.qq_queue.proofs.handing_out.deliver_rows.Given as goal
+
+-- what is left from here on gives what all gave at first
+abbrev pub invariant-rows : goal.invariant-rows
+invariant-rows l = record {
+  came : come_all (clients_of (standings l.sessions) no_numbers) (effects_in (drop l.applied-index l.rows)) l.consumers
+      ≡ come_all (clients_of (standings l.sessions) no_numbers) (effects_in l.rows) l.fn.consumers;
+  handed : l.untold
+      ++ hand_all (clients_of (standings l.sessions) no_numbers) (effects_in (drop l.applied-index l.rows)) l.consumers
+      ≡ l.fn.untold ++ hand_all (clients_of (standings l.sessions) no_numbers) (effects_in l.rows) l.fn.consumers;
+}

@@ -1,0 +1,14 @@
+pub mod Applied
+pub mod StandsFor
+pub mod Range
+pub mod Sessions
+pub mod Tally
+pub mod Members
+pub mod Telling
+pub mod Waiting
+pub mod ClusterQueue
+pub mod Events
+pub mod Judging
+pub mod Agreeing
+pub mod Handing
+pub mod Fetching

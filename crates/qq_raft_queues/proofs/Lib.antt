@@ -1,2 +1,0 @@
-mod MachineSteps
-pub mod SerialSteps

@@ -1,8 +1,0 @@
-use Rattle.std.proofs.Common.{sym, subst}
-use Rattle.qq_model.specs.State.{empty_queue}
-use Rattle.qq_raft_queues.specs.StandsFor.{StandsFor}
-use Rattle.qq_raft_queues.proofs.MachineSteps.{new-stands}
-use Rattle.qq_raft_queues.proofs.machine_queue.MachineQueue.new.Goals as goal
-
-pub returns : goal.returns
-returns c = subst (StandsFor (empty_queue c.args.args)) (sym c.new.ensures) (new-stands c.args.args)
