@@ -24,7 +24,6 @@ mod publishers;
 mod reads;
 mod sending;
 mod sessions;
-mod states;
 mod stepping;
 mod storing;
 mod tally;
