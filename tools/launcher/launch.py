@@ -31,7 +31,7 @@ def run(program, given):
     asked_words, own = words.own(given)
     asked = explain.asked_of(asked_words)
     root = asked.values.get("--root") if asked else None
-    setup = setups.text_in(root)
+    had = setups.before(root)
     if asked and asked.command == "script":
         source = running.input_of() if "--root" in asked.values else None
         script = source.head() if isinstance(source, running.FileInput) else b""
@@ -44,8 +44,8 @@ def run(program, given):
         if os.path.isdir(asked.values["--root"]) and not os.path.isdir(folder):
             tell([f"there is no {folder}: nothing is printed of it"])
     status, source = running.run([program, *asked_words], bool(asked) and asked.command == "script")
-    if status in setups.REFUSED and setup is not None and asked.command == "script":
-        setups.put(root, setup)
+    if asked and asked.command == "script":
+        setups.put_back(root, had, status)
     tell(explain.of_status(status, asked_words, source))
     if "--check" in own and asked and status == 0:
         return importlib.import_module("drills").compare(program, asked)
