@@ -221,7 +221,8 @@ def of_loss(_given, asked, _input):
             log.read()
         except OSError as error:
             rows.append(
-                f"{folder}: its log can't be read ({error.strerror}): without the node that led last none goes on"
+                f"{folder}: its log can't be read ({error.strerror}): a queue that it led last, or for whose leader it "
+                "voted, isn't opened without it"
             )
             continue
         if not log.chain:

@@ -23,7 +23,7 @@ SAME = {"--help": "help", "-h": "help", "--version": "version", "-V": "version"}
 
 def tell(lines):
     for line in lines:
-        print(f"qq: {line}", file=sys.stderr, flush=True)
+        print(f"qq: {table.visible(line)}", file=sys.stderr, flush=True)
 
 
 def run(program, given):

@@ -36,7 +36,7 @@ COMMANDS = {
     ),
     "queues": Command(
         "queues [--messages] --root DIR | FILE",
-        "shows a table of the queues of a folder, or of what a " "run has printed",
+        "shows a table of the queues of a folder, as the next run would find them, or of what a run has printed",
         ("--root", "--messages"),
     ),
     "picture": Command(
@@ -84,6 +84,11 @@ ADVICE = {
 def count(number, what):
     """Returns a number of things in words."""
     return f"{number:,} {what}" + ("" if number == 1 else "s")
+
+
+def visible(text):
+    """Returns text that moves no terminal: what can't be printed is escaped."""
+    return "".join(it if it.isprintable() else it.encode("unicode_escape", "backslashreplace").decode() for it in text)
 
 
 def cells(row):
