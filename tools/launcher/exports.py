@@ -37,6 +37,9 @@ class Reader:
         self.faults.append(f"{where}: {why}")
 
     def read(self, text):
+        if text.startswith((b"\xef\xbb\xbf", b"\xff\xfe", b"\xfe\xff")):
+            self.fault("the file", "it begins with a byte order mark: write it as UTF-8 without one")
+            return
         try:
             document = json.loads(text.decode("utf-8"), parse_int=integer, parse_float=real, parse_constant=real)
             json.dumps(document, ensure_ascii=False).encode("utf-8")

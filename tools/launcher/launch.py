@@ -3,6 +3,10 @@ import importlib
 import os
 import sys
 
+if sys.version_info < (3, 9):
+    print("qq: this python3 is older than 3.9, so nothing is explained here", file=sys.stderr, flush=True)
+    os.execv(sys.argv[1], sys.argv[1:])
+
 import explain
 import running
 import setups
@@ -26,6 +30,19 @@ def tell(lines):
         print(f"qq: {table.visible(line)}", file=sys.stderr, flush=True)
 
 
+def before(asked, root):
+    """Says what is easily overlooked before a run begins."""
+    told = []
+    if (root or "").startswith("~"):
+        told.append(f"`{root}` is a folder of this name here: the shell puts a home there only where `~` begins a word")
+    if "--definitions" in asked.values:
+        setup = setups.of_words(asked)
+        told += setups.unnamed(setup.queues) if setup else []
+    if os.isatty(0):
+        told.append("lines are read from this terminal; Ctrl-D ends them, and then the audits are printed")
+    return told
+
+
 def run(program, given):
     """Runs the program by its words, and explains its status."""
     asked_words, own = words.own(given)
@@ -33,6 +50,7 @@ def run(program, given):
     root = asked.values.get("--root") if asked else None
     had = setups.before(root)
     if asked and asked.command == "script":
+        tell(before(asked, root))
         source = running.input_of() if "--root" in asked.values else None
         script = source.head() if isinstance(source, running.FileInput) else b""
         may, told = setups.compare(root, asked, "--force" in own, script)

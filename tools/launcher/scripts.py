@@ -61,6 +61,14 @@ class Script:
             return "body", f"its body has {len(values[-1]):,} bytes, and may have {LONGEST_BODY:,}"
         return self.attach(values) if word == "attach" else None
 
+    def goes_nowhere(self, line):
+        """Says why a message reaches no queue, where that is seen: the keys of the default exchange are queues' names."""
+        word, _, rest = line.partition(" ")
+        _, exchange, key, _ = [*rest.split(" ", 3), "", "", "", ""][:4]
+        if word != "send" or exchange not in ("-", "") or key in self.reader.names:
+            return None
+        return f"it is unroutable, which is no fault: `-` finds a queue by its name alone, and {self.no_queue(key)}"
+
     def attach(self, values):
         """A taker is given once; a consumer that has one keeps it."""
         *consumer, taker = values

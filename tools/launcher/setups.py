@@ -47,6 +47,16 @@ def used(queue, nodes):
     return queue.name, arguments
 
 
+def unnamed(queues):
+    """Names the queues that a line can't name, since a blank parts its words."""
+    return [
+        f"queue {number}, `{queue[0]}`, has a blank in its name: lines name it `#{number}`, and `send` reaches it by an "
+        "exchange that is bound to it"
+        for number, queue in enumerate(queues, 1)
+        if " " in queue[0]
+    ]
+
+
 def groups(setup):
     """Returns the size of each queue's group."""
     return [arguments.get("x-quorum-initial-group-size", setup.group) for _, arguments in setup.queues]

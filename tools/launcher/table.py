@@ -81,6 +81,11 @@ ADVICE = {
 }
 
 
+def unread(error):
+    """Says why a file can't be read."""
+    return f"`{error.filename}` can't be read: {error.strerror}"
+
+
 def count(number, what):
     """Returns a number of things in words."""
     return f"{number:,} {what}" + ("" if number == 1 else "s")

@@ -9,6 +9,8 @@ Asked = namedtuple("Asked", "command values numbers")
 # Options of the launcher alone, which the program doesn't know.
 OWN = {"script": ("--force",), "drill": ("--check",), "dump": ()}
 BARRED = {"": "an empty word", "-": "`-` alone", "--": "`--` alone"}
+# What who looks for a server says.
+SERVERS = ("start", "serve", "server", "listen", "broker")
 
 
 class Wrong(Exception):
@@ -29,6 +31,8 @@ def read_command(words):
     word = words[0]
     if word in table.PROGRAM:
         return word
+    if word in SERVERS:
+        raise Wrong(f"`{word}` is no command: the program opens no socket, and `script` runs the lines of a script")
     if word == "run":
         raise Wrong("`run` isn't built yet; `script` runs the lines of a script")
     if any(it in table.COMMANDS for it in words[1:]) and word.startswith("-"):
