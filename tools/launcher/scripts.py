@@ -146,7 +146,7 @@ class Script:
 
     def of_word(self, fault, kind, each):
         if kind in ("N", "NODES") and fault == "no-such":
-            return f"there is no node {shown(each)}: there are {len_of(self.reader.nodes)} (`--nodes`)"
+            return f"there is no node {shown(each)}: there {len_of(self.reader.nodes)} (`--nodes`)"
         if kind == "Q":
             return self.no_queue(each)
         if kind == "TAKER" and fault == "no-such":
@@ -166,7 +166,7 @@ class Script:
 
 
 def len_of(nodes):
-    return "node 1" if nodes == 1 else f"nodes 1 to {nodes}"
+    return "is node 1" if nodes == 1 else f"are nodes 1 to {nodes}"
 
 
 def session_of(line):

@@ -31,6 +31,8 @@ def read_command(words):
     word = words[0]
     if word in table.PROGRAM:
         return word
+    if word in ("prove", "path"):
+        raise Wrong(f"`{word}` stands alone: ./qq {word}")
     if word in SERVERS:
         raise Wrong(f"`{word}` is no command: the program opens no socket, and `script` runs the lines of a script")
     if word == "run":
