@@ -283,10 +283,13 @@ def has_avx2():
 
 # What ends the program from outside, or in a build that isn't proved.
 SIGNALS = {
-    "SIGINT": [
-        "  the audits come at the end of the input, which is Ctrl-D on a terminal. What it had printed as confirmed is "
-        "there at the next run over the same folder; without --root nothing is kept"
-    ],
+    **dict.fromkeys(
+        ("SIGINT", "SIGTERM", "SIGHUP"),
+        [
+            "  the audits come at the end of the input, which is Ctrl-D on a terminal. What it had printed as confirmed "
+            "is there at the next run over the same folder; without --root nothing is kept"
+        ],
+    ),
     "SIGKILL": [
         "  somebody has ended it, or the system has, for want of memory (dmesg says so). What it had printed as "
         "confirmed is there at the next run over the same folder"

@@ -55,7 +55,13 @@ COMMANDS = {
 # Options that are the launcher's, or that docs/SCRIPT.md has in its text.
 MORE_OPTIONS = (
     Option("--node", "N", "the node whose files are dumped", "1 to 7", ""),
-    Option("--force", "", "starts over a folder that was made with other words or queues", "", ""),
+    Option(
+        "--force",
+        "",
+        "runs all the same over a folder that was made with other words or queues, or in which files are gone",
+        "",
+        "",
+    ),
     Option("--check", "", "has the independent model run the drill's lines too, and compares its counts", "", ""),
     Option("--messages", "", "shows the messages themselves, and changes nothing in the queue", "", ""),
 )
