@@ -313,6 +313,8 @@ def of_status(status, given, source):
         return [f"the program was ended by the signal {name}", *told]
     row = table.statuses().get(status)
     asked = asked_of(given)
+    if status == 127 and not has_avx2():
+        return ["status 127", NO_AVX2]
     if row is None or status not in REASONS or asked is None and status != 2:
         return [f"status {status}"]
     try:
