@@ -210,11 +210,12 @@ def taken(root, setup, script):
         return [] if is_all else [f"some sessions' numbers may be taken in {root}: its logs weren't read to their end"]
     told = ", ".join(map(str, sessions[:12])) + (f" and {len(sessions) - 12} more" if len(sessions) > 12 else "")
     free = next(number for number in range(2, 2**32) if number not in sessions)
-    queue = names(setup)[0] if names(setup) else "q1"
+    named = [name for name in names(setup) if " " not in name]
+    lines = f"`send {free} - {named[0]} b` and `get {free} {named[0]}`" if named else f"`get {free} #1`"
     rows = [
         f"sessions whose numbers are taken in {root}: {told}" + ("" if is_all else ", and others maybe"),
         "  a number that was used is answered as it was, or `forgotten`, and nothing is stored; use a session of your "
-        f"own, as `send {free} - {queue} b` and `get {free} {queue}`",
+        f"own, as {lines}",
     ]
     first = scripts.first_of(sessions, script)
     if first:
