@@ -193,8 +193,12 @@ def command_of(text):
 
 
 def nodes_in(root):
-    """Returns the numbers of the nodes that have log files under a root."""
-    found = [int(it[5:]) for it in os.listdir(root) if re.fullmatch(r"node-[1-7]", it)] if os.path.isdir(root) else []
+    """Returns the numbers of the nodes that have log files under a root, as far as it may be read."""
+    try:
+        names = os.listdir(root)
+    except OSError:
+        return []
+    found = [int(it[5:]) for it in names if re.fullmatch(r"node-[1-7]", it)]
     return sorted(node for node in found if numbers_in(folder_of(root, node)))
 
 

@@ -247,7 +247,9 @@ def texts_of(row):
 
 def of_root(program, root):
     """Returns the queues of a folder, as the next run would find them."""
-    if not os.path.isdir(root) or not logs.nodes_in(root):
+    if os.path.isdir(root) and not os.access(root, os.R_OK | os.X_OK):
+        raise Unread(f"you may not read the folder {root}")
+    if not logs.nodes_in(root):
         raise Unread(f"{root} has no files of nodes")
     if not program:
         raise Unread("no program is built yet: ./qq path builds it")
