@@ -30,6 +30,27 @@ def shown(command):
     return {re.sub(r"\d[\d,]*", "9", row) for row in rows}, text.endswith("\r\x1b[K")
 
 
+def interrupted():
+    """Returns what a terminal shows of a run that is ended there."""
+    process, ours = pty.fork()
+    if process == 0:
+        os.execv("./qq", ["./qq", "script"])
+    text = read_until(ours, b"printed\r\n")
+    os.write(ours, b"publish a\n")
+    text += read_until(ours, b"confirmed 1")
+    os.write(ours, b"\x03")
+    text += read_until(ours, b"nothing is kept")
+    os.waitpid(process, 0)
+    return [row for row in text.decode().split("\r\n") if row]
+
+
+def read_until(file, wanted):
+    text = b""
+    while wanted not in text:
+        text += os.read(file, 4096)
+    return text
+
+
 def main():
     with open("slow", "w", encoding="utf-8") as file:
         file.write(SLOW)
@@ -41,6 +62,7 @@ def main():
     print(*shown(f"cat many.qq | {launch}"))
     print(*shown(f"{launch[:-len('script')]}drill 7 < /dev/null"))
     print(*shown("./qq script --nodes 3 < /dev/null"))
+    print(*interrupted(), sep="\n")
 
 
 main()

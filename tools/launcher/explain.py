@@ -221,7 +221,8 @@ def of_loss(_given, asked, _input):
             log.read()
         except OSError as error:
             rows.append(
-                f"{folder}: its log can't be read ({error.strerror}): without the node that led last none goes on"
+                f"{folder}: its log can't be read ({error.strerror}): a queue that it led last, or for whose leader it "
+                "voted, isn't opened without it"
             )
             continue
         if not log.chain:
@@ -282,6 +283,13 @@ def has_avx2():
 
 # What ends the program from outside, or in a build that isn't proved.
 SIGNALS = {
+    **dict.fromkeys(
+        ("SIGINT", "SIGTERM", "SIGHUP"),
+        [
+            "  the audits come at the end of the input, which is Ctrl-D on a terminal. What it had printed as confirmed "
+            "is there at the next run over the same folder; without --root nothing is kept"
+        ],
+    ),
     "SIGKILL": [
         "  somebody has ended it, or the system has, for want of memory (dmesg says so). What it had printed as "
         "confirmed is there at the next run over the same folder"
@@ -305,6 +313,8 @@ def of_status(status, given, source):
         return [f"the program was ended by the signal {name}", *told]
     row = table.statuses().get(status)
     asked = asked_of(given)
+    if status == 127 and not has_avx2():
+        return ["status 127", NO_AVX2]
     if row is None or status not in REASONS or asked is None and status != 2:
         return [f"status {status}"]
     try:

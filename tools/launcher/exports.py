@@ -30,11 +30,16 @@ class Reader:
         self.ignores_policies = ignores_policies
         self.faults, self.queues, self.names, self.skipped = [], [], set(), set()
         self.exchanges, self.bindings, self.others = dict(BUILT_IN), 0, 0
+        # Exchanges of other types: a binding from one is refused with it, and isn't told again.
+        self.refused = set()
 
     def fault(self, where, why):
         self.faults.append(f"{where}: {why}")
 
     def read(self, text):
+        if text.startswith((b"\xef\xbb\xbf", b"\xff\xfe", b"\xfe\xff")):
+            self.fault("the file", "it begins with a byte order mark: write it as UTF-8 without one")
+            return
         try:
             document = json.loads(text.decode("utf-8"), parse_int=integer, parse_float=real, parse_constant=real)
             json.dumps(document, ensure_ascii=False).encode("utf-8")
@@ -136,6 +141,7 @@ class Reader:
         where = f"exchange `{name}`"
         if kind not in KINDS:
             self.fault(where, f"its type {kind} isn't supported: {', '.join(KINDS)} are")
+            self.refused.add(name)
             return
         self.name(where, name)
         if self.exchanges.setdefault(name, kind) != kind:
@@ -150,7 +156,7 @@ class Reader:
         if kind != "queue":
             self.fault(where, f"its destination is of type {kind}, and queues alone are supported")
         elif to not in self.skipped:
-            if source not in self.exchanges:
+            if source not in self.exchanges and source not in self.refused:
                 self.fault(where, f"there is no exchange `{source}`")
             if to not in self.names:
                 self.fault(where, f"there is no queue `{to}`")
@@ -159,7 +165,7 @@ class Reader:
     def export(self):
         counts = (
             f"{table.count(len(self.queues), 'quorum queue')}, "
-            f"{table.count(len(self.exchanges) - len(BUILT_IN), 'exchange')}, {table.count(self.bindings, 'binding')}; "
+            f"{table.count(len(self.exchanges.keys() | self.refused) - len(BUILT_IN), 'exchange')}, {table.count(self.bindings, 'binding')}; "
             f"skipped: {table.count(len(self.skipped), 'queue')} of other types, "
             f"{table.count(self.others, 'item')} of other virtual hosts"
         )

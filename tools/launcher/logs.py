@@ -103,21 +103,26 @@ class Log:
     def records(self):
         """Yields the records of the chain, as far as they are whole."""
         for number, good in self.chain:
-            text, place = self.bytes_of(number), HEADER
-            salt, end = struct.pack(">Q", number), len(text) if good is None else good
-            while place < end:
-                size = int.from_bytes(text[place : place + 4], "big")
-                stop = place + RECORD + size
-                if stop > end or mark(salt, text[place : stop - MARK]) != text[stop - MARK : stop]:
-                    break
-                kind, queue, op = struct.unpack(">BIQ", text[place + 4 : place + 17])
-                yield Record(number, place, kind, queue, op, text[place + 17 : stop - MARK])
-                place = stop
+            place = yield from self.records_of(number, good)
             if good is not None and place != good:
                 self.refuse(
                     number, place, f"a record isn't whole there; the next file names {good:,} bytes of this one"
                 )
                 return
+
+    def records_of(self, number, good=None):
+        """Yields the whole records of a file, and returns where they end."""
+        text, place = self.bytes_of(number), HEADER
+        salt, end = struct.pack(">Q", number), len(text) if good is None else good
+        while place < end:
+            size = int.from_bytes(text[place : place + 4], "big")
+            stop = place + RECORD + size
+            if stop > end or mark(salt, text[place : stop - MARK]) != text[stop - MARK : stop]:
+                break
+            kind, queue, op = struct.unpack(">BIQ", text[place + 4 : place + 17])
+            yield Record(number, place, kind, queue, op, text[place + 17 : stop - MARK])
+            place = stop
+        return place
 
     def read(self, until=None):
         """Puts the lanes together, until a moment of the clock. Says whether all was read."""
@@ -188,13 +193,33 @@ def command_of(text):
 
 
 def nodes_in(root):
-    """Returns the numbers of the nodes that have log files under a root."""
-    found = [int(it[5:]) for it in os.listdir(root) if re.fullmatch(r"node-[1-7]", it)] if os.path.isdir(root) else []
+    """Returns the numbers of the nodes that have log files under a root, as far as it may be read."""
+    try:
+        names = os.listdir(root)
+    except OSError:
+        return []
+    found = [int(it[5:]) for it in names if re.fullmatch(r"node-[1-7]", it)]
     return sorted(node for node in found if numbers_in(folder_of(root, node)))
 
 
 def folder_of(root, node):
     return os.path.join(root, f"node-{node}")
+
+
+def newest(root):
+    """Returns the number of each node's newest log file."""
+    return {node: numbers_in(folder_of(root, node))[-1] for node in nodes_in(root)}
+
+
+def has_changes(root, before):
+    """Says whether a node's files have a change that is newer than these newest files. An opening that is refused makes
+    files too, but their records repeat what stands before them."""
+    for node in nodes_in(root):
+        log = Log(folder_of(root, node))
+        later = [number for number in numbers_in(log.folder) if number > before.get(node, 0)]
+        if any(record.kind == 1 for number in later for record in log.records_of(number)):
+            return True
+    return False
 
 
 def sessions_in(root, seconds):

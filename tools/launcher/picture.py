@@ -284,7 +284,7 @@ def picture(program, given):
         with open(given[0], "rb") as file:
             text = file.read()
     except (words.Wrong, OSError) as error:
-        print(f"qq: {error}", file=sys.stderr)
+        print(f"qq: {table.unread(error) if isinstance(error, OSError) else error}", file=sys.stderr)
         return 2
     script = list(lines_of(text.decode("latin-1")))
     options = {name: words.number(asked, f"--{name}") for name in ("nodes", "group", "queues")}
@@ -296,7 +296,7 @@ def picture(program, given):
         return 1
     with open(PAGE, encoding="utf-8") as page:
         data = json.dumps(data_of(cluster, script, status), ensure_ascii=False, separators=(",", ":"))
-        title = f"{os.path.basename(given[0])} over {options['nodes']} nodes"
+        title = f"{os.path.basename(given[0])} over {table.count(options['nodes'], 'node')}"
         sys.stdout.write(
             page.read()
             .replace("/*TITLE*/", title.replace("<", "&lt;"))

@@ -247,7 +247,9 @@ def texts_of(row):
 
 def of_root(program, root):
     """Returns the queues of a folder, as the next run would find them."""
-    if not os.path.isdir(root) or not logs.nodes_in(root):
+    if os.path.isdir(root) and not os.access(root, os.R_OK | os.X_OK):
+        raise Unread(f"you may not read the folder {root}")
+    if not logs.nodes_in(root):
         raise Unread(f"{root} has no files of nodes")
     if not program:
         raise Unread("no program is built yet: ./qq path builds it")
@@ -337,6 +339,8 @@ def queues(program, given):
         if len(words) == 2 and words[0] == "--root":
             found = of_root(program, words[1])
         elif len(words) == 1 and not words[0].startswith("--"):
+            if logs.nodes_in(words[0]):
+                raise Unread(f"`{words[0]}` is a folder: ./qq queues --root {words[0]}")
             with open(words[0], encoding="latin-1", newline="") as file:
                 printed = read(file.read())
             found = [of_printed(audit, printed) for audit in printed.audits]
@@ -345,7 +349,7 @@ def queues(program, given):
         else:
             raise Unread(f"its form is ./qq {table.COMMANDS['queues'].form}")
     except (OSError, Unread) as error:
-        print(f"qq: {error}", file=sys.stderr)
+        print(f"qq: {table.unread(error) if isinstance(error, OSError) else error}", file=sys.stderr)
         return 2
     show(found, with_messages)
     return 0

@@ -7,7 +7,8 @@ import words
 from lines import CLIENT_LINES, Fault, FORMS, LONGEST_BODY, LONGEST_LINE, ORDER, Reader, is_utf8, lines_of
 from takers import VERDICTS
 
-MARK = "\u00ef\u00bb\u00bf"  # a byte order mark, a letter for each byte
+# Byte order marks of UTF-8 and UTF-16, a letter for each byte.
+MARK, WIDE = "\u00ef\u00bb\u00bf", ("\u00ff\u00fe", "\u00fe\u00ff")
 # What a word of the model's forms is, where the word of docs/SCRIPT.md's form doesn't say it.
 RANGES = {
     "S": "a session, 1 to 4,294,967,295",
@@ -27,7 +28,7 @@ RANGES = {
 
 def shown(line):
     """Returns a line, whose characters are its bytes, as a terminal shows it."""
-    text = line.encode("latin-1").decode("utf-8", "replace")
+    text = table.visible(line.encode("latin-1").decode("utf-8", "replace"))
     return text if len(text) <= 100 else text[:97] + "..."
 
 
@@ -60,6 +61,14 @@ class Script:
             return "body", f"its body has {len(values[-1]):,} bytes, and may have {LONGEST_BODY:,}"
         return self.attach(values) if word == "attach" else None
 
+    def goes_nowhere(self, line):
+        """Says why a message reaches no queue, where that is seen: the keys of the default exchange are queues' names."""
+        word, _, rest = line.partition(" ")
+        _, exchange, key, _ = [*rest.split(" ", 3), "", "", "", ""][:4]
+        if word != "send" or exchange not in ("-", "") or key in self.reader.names:
+            return None
+        return f"it is unroutable, which is no fault: `-` finds a queue by its name alone, and {self.no_queue(key)}"
+
     def attach(self, values):
         """A taker is given once; a consumer that has one keeps it."""
         *consumer, taker = values
@@ -86,6 +95,10 @@ class Script:
         """Names what stands in a line that would be one without it."""
         if line.startswith(MARK):
             return "it begins with a byte order mark: write the file as UTF-8 without one"
+        if line.startswith(WIDE):
+            return "it begins as UTF-16 does: write the file as UTF-8"
+        if "\r" in line:
+            return "a carriage return stands in it: a line ends with a line feed, before which one may stand"
         if line.lstrip(" \t").startswith("#"):
             return "a comment begins with `;`, and not with `#`"
         for made, why in (
@@ -93,7 +106,7 @@ class Script:
             (line.lstrip(" \t"), "a blank or a tab stands at its beginning"),
             (line.replace("\t", " "), "a tab stands in it: one blank parts two words"),
             (" ".join(line.split()), "more than one blank stands between two of its words"),
-            (line.rstrip("; "), "a `;` ends no line"),
+            (line.partition(";")[0].rstrip(), "a comment has a line of its own, and no line ends with `;`"),
         ):
             if made != line and made and self.is_read(made):
                 return f"{why}; `{shown(made)}` is a line"
@@ -133,7 +146,7 @@ class Script:
 
     def of_word(self, fault, kind, each):
         if kind in ("N", "NODES") and fault == "no-such":
-            return f"there is no node {shown(each)}: there are {len_of(self.reader.nodes)} (`--nodes`)"
+            return f"there is no node {shown(each)}: there {len_of(self.reader.nodes)} (`--nodes`)"
         if kind == "Q":
             return self.no_queue(each)
         if kind == "TAKER" and fault == "no-such":
@@ -153,7 +166,7 @@ class Script:
 
 
 def len_of(nodes):
-    return "node 1" if nodes == 1 else f"nodes 1 to {nodes}"
+    return "is node 1" if nodes == 1 else f"are nodes 1 to {nodes}"
 
 
 def session_of(line):

@@ -16,9 +16,9 @@ HEAD = "; What this folder was made with. ./qq compares it with the words of eac
 # The queues are pairs of a name and arguments in the order of their numbers, from 1.
 Setup = namedtuple("Setup", "nodes group log_bytes definitions queues")
 READ_SECONDS = 0.5
-# At these statuses the program has refused what a folder has, so the folder's setup stays what it was.
-REFUSED = (7, 8, 9)
-NOT_ALL_READ = "some sessions' numbers are taken there: its logs are long, and weren't read whole"
+# What a folder has before a run: its setup's text, None where there is none, and each node's newest log file.
+Before = namedtuple("Before", "text newest")
+NO_YARD = 7
 
 
 def of_words(asked):
@@ -45,6 +45,16 @@ def used(queue, nodes):
     arguments = dict(queue.arguments)
     arguments["x-quorum-initial-group-size"] = min(nodes, exports.group_of(queue))
     return queue.name, arguments
+
+
+def unnamed(queues):
+    """Names the queues that a line can't name, since a blank parts its words."""
+    return [
+        f"queue {number}, `{queue[0]}`, has a blank in its name: lines name it `#{number}`, and `send` reaches it by an "
+        "exchange that is bound to it"
+        for number, queue in enumerate(queues, 1)
+        if " " in queue[0]
+    ]
 
 
 def groups(setup):
@@ -87,31 +97,47 @@ def read(root):
         return None
 
 
-def text_in(root):
-    """Returns the text of a folder's setup, or None where it has none."""
-    try:
-        with open(os.path.join(root or os.devnull, NAME), encoding="utf-8") as file:
-            return file.read()
-    except (OSError, ValueError):
+def before(root):
+    """Returns what a folder has before a run, or None where no node has files in it."""
+    found = logs.newest(root) if root else {}
+    if not found:
         return None
+    try:
+        with open(os.path.join(root, NAME), encoding="utf-8") as file:
+            return Before(file.read(), found)
+    except (OSError, ValueError):
+        return Before(None, found)
+
+
+def put_back(root, had, status):
+    """Gives a folder the setup that it had, where a run ended before it had opened the folder. Words that opened it stay:
+    what the logs have since is by these."""
+    try:
+        if had and status and (status == NO_YARD or not logs.has_changes(root, had.newest)):
+            put(root, had.text)
+    except OSError:
+        pass
 
 
 def write(root, setup):
-    """Writes the setup of a folder, which is made where it is absent. Says whether it was written."""
-    return put(root, text_of(setup))
+    """Writes the setup of a folder, which is made where it is absent."""
+    put(root, text_of(setup))
 
 
 def put(root, text):
+    """Makes a text the setup of a folder, or removes it where there is none. A folder that can't be written to stays."""
     path = os.path.join(root, NAME)
     made = f"{path}.{os.getpid()}"
     try:
+        if text is None:
+            os.remove(path)
+            return
         os.makedirs(root, exist_ok=True)
         with open(made, "w", encoding="utf-8") as file:
             file.write(text)
         os.replace(made, path)
-        return True
     except OSError:
-        return False
+        pass
 
 
 def guess(root, now):
@@ -181,14 +207,15 @@ def taken(root, setup, script):
         return []
     sessions = sorted({session for of in found.values() for session in of})
     if not sessions:
-        return [] if is_all else [NOT_ALL_READ]
+        return [] if is_all else [f"some sessions' numbers may be taken in {root}: its logs weren't read to their end"]
     told = ", ".join(map(str, sessions[:12])) + (f" and {len(sessions) - 12} more" if len(sessions) > 12 else "")
     free = next(number for number in range(2, 2**32) if number not in sessions)
-    queue = names(setup)[0] if names(setup) else "q1"
+    named = [name for name in names(setup) if " " not in name]
+    lines = f"`send {free} - {named[0]} b` and `get {free} {named[0]}`" if named else f"`get {free} #1`"
     rows = [
         f"sessions whose numbers are taken in {root}: {told}" + ("" if is_all else ", and others maybe"),
         "  a number that was used is answered as it was, or `forgotten`, and nothing is stored; use a session of your "
-        f"own, as `send {free} - {queue} b` and `get {free} {queue}`",
+        f"own, as {lines}",
     ]
     first = scripts.first_of(sessions, script)
     if first:
@@ -214,7 +241,7 @@ def refusal(root, made_with, why, other, lost):
             *(f"  {it}" for it in other),
             f"  {why}",
             f"  it was made with: {made_with}",
-            "  --force starts it all the same, and makes the words of now those of the folder",
+            "  --force starts it all the same; once it opens, the words of now are those of the folder",
         ]
     return [
         f"not started: files of {root} are gone",

@@ -11,6 +11,7 @@ import subprocess
 import sys
 import time
 
+import explain
 import logs
 import running
 import setups
@@ -94,7 +95,9 @@ def count(printed, output):
 def folder_fault(folder):
     if os.path.exists(folder) and not os.path.isdir(folder):
         return f"{folder} is no folder"
-    return f"{folder} has files of nodes: a storm begins in a new folder" if logs.nodes_in(folder) else None
+    if logs.nodes_in(folder):
+        return f"{folder} has files of nodes: a storm begins in a new folder"
+    return explain.root_fault(folder) if os.path.isdir(folder) else None
 
 
 def storm(program, given):

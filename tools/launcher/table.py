@@ -36,7 +36,7 @@ COMMANDS = {
     ),
     "queues": Command(
         "queues [--messages] --root DIR | FILE",
-        "shows a table of the queues of a folder, or of what a " "run has printed",
+        "shows a table of the queues of a folder, as the next run would find them, or of what a run has printed",
         ("--root", "--messages"),
     ),
     "picture": Command(
@@ -55,7 +55,13 @@ COMMANDS = {
 # Options that are the launcher's, or that docs/SCRIPT.md has in its text.
 MORE_OPTIONS = (
     Option("--node", "N", "the node whose files are dumped", "1 to 7", ""),
-    Option("--force", "", "starts over a folder that was made with other words or queues", "", ""),
+    Option(
+        "--force",
+        "",
+        "runs all the same over a folder that was made with other words or queues, or in which files are gone",
+        "",
+        "",
+    ),
     Option("--check", "", "has the independent model run the drill's lines too, and compares its counts", "", ""),
     Option("--messages", "", "shows the messages themselves, and changes nothing in the queue", "", ""),
 )
@@ -81,9 +87,19 @@ ADVICE = {
 }
 
 
+def unread(error):
+    """Says why a file can't be read."""
+    return f"`{error.filename}` can't be read: {error.strerror}"
+
+
 def count(number, what):
     """Returns a number of things in words."""
     return f"{number:,} {what}" + ("" if number == 1 else "s")
+
+
+def visible(text):
+    """Returns text that moves no terminal: what can't be printed is escaped."""
+    return "".join(it if it.isprintable() else it.encode("unicode_escape", "backslashreplace").decode() for it in text)
 
 
 def cells(row):

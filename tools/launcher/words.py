@@ -9,6 +9,8 @@ Asked = namedtuple("Asked", "command values numbers")
 # Options of the launcher alone, which the program doesn't know.
 OWN = {"script": ("--force",), "drill": ("--check",), "dump": ()}
 BARRED = {"": "an empty word", "-": "`-` alone", "--": "`--` alone"}
+# What who looks for a server says.
+SERVERS = ("start", "serve", "server", "listen", "broker")
 
 
 class Wrong(Exception):
@@ -23,15 +25,19 @@ def near(word, known):
 
 def read_command(words):
     """Returns the command, or says why the first word is none."""
-    known = ", ".join(table.PROGRAM)
+    known = ", ".join(table.COMMANDS)
     if not words:
         raise Wrong(f"a command is missing: {known}")
     word = words[0]
     if word in table.PROGRAM:
         return word
+    if word in ("prove", "path"):
+        raise Wrong(f"`{word}` stands alone: ./qq {word}")
+    if word in SERVERS:
+        raise Wrong(f"`{word}` is no command: the program opens no socket, and `script` runs the lines of a script")
     if word == "run":
         raise Wrong("`run` isn't built yet; `script` runs the lines of a script")
-    if any(it in table.PROGRAM for it in words[1:]) and word.startswith("-"):
+    if any(it in table.COMMANDS for it in words[1:]) and word.startswith("-"):
         raise Wrong(f"the command comes first: {known}")
     if os.path.isfile(word):
         raise Wrong(f"`{word}` is a file: a script is read from the standard input, `script < {word}`")
@@ -40,24 +46,22 @@ def read_command(words):
     raise Wrong(f"`{word}` is no command: {known}" + near(word, table.COMMANDS))
 
 
-def allowed(command):
-    return [it for it in table.COMMANDS[command].options if it not in OWN[command]]
-
-
 def read_option(command, word, rest, values):
     """Takes an option, with its value where that is the next word."""
     name, equals, value = word.partition("=")
-    option = table.options().get(name)
-    if name not in allowed(command):
-        where = [f"`{it}`" for it in table.PROGRAM if name in allowed(it)]
-        has = f"{' and '.join(where)} {'has' if len(where) == 1 else 'have'} it; its own are "
-        known = has * bool(where) + ", ".join(allowed(command))
-        raise Wrong(f"`{command}` has no option `{name}`: {known}{near(name, allowed(command))}")
+    option, its = table.options().get(name), table.COMMANDS[command].options
+    if name not in its:
+        where = [f"`{it}`" for it in table.PROGRAM if name in table.COMMANDS[it].options]
+        has = f"{' and '.join(where)} {'has' if len(where) == 1 else 'have'} it; those of `{command}` are "
+        known = has * bool(where) + ", ".join(its)
+        raise Wrong(f"`{command}` has no option `{name}`: {known}{near(name, its)}")
     if name in values:
         raise Wrong(f"`{name}` is given twice")
     if not option.value:
         if equals:
-            raise Wrong(f"`{name}` has no value")
+            raise Wrong(f"`{name}` takes no value")
+        if name in OWN[command]:
+            raise Wrong(f"`{name}` is an option of ./qq alone, and the program doesn't know it")
         values[name] = True
         return
     wanted = f"`{name} {option.value}`" + (f", {option.range}" if option.range else "")
@@ -106,13 +110,14 @@ def read(words):
         if word.startswith("--"):
             read_option(command, word, rest, values)
         elif word.startswith("-") and table.number_fault(word[1:], 0, 2**64):
-            raise Wrong(f"`{word}` has one hyphen: options have two, {', '.join(allowed(command))}")
+            its = ", ".join(table.COMMANDS[command].options)
+            raise Wrong(f"`{word}` has one hyphen: options have two, {its}")
         elif command == "drill":
             read_number(word, numbers)
         elif command == "script" and os.path.isfile(word):
             raise Wrong(f"`{word}` is a file: a script is read from the standard input, `script < {word}`")
         else:
-            raise Wrong(f"`{word}` isn't an option of `{command}`: {', '.join(allowed(command))}")
+            raise Wrong(f"`{word}` isn't an option of `{command}`: {', '.join(table.COMMANDS[command].options)}")
     return whole(Asked(command, values, numbers))
 
 
