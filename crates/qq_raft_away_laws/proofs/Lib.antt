@@ -1,0 +1,5 @@
+mod Above
+mod Assumed
+mod Begin
+mod Commits
+mod Still

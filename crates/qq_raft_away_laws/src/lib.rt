@@ -1,0 +1,11 @@
+//! What holds of a Raft group some of whose members are away: their disks failed as the group began, or are new
+//! where the others' are old. It has no code.
+#![tactic(auto)]
+
+mod laws;
+
+pub use laws::{
+    a_leader_commits_after_the_audit, a_leader_is_above_what_was_read,
+    disks_that_stand_still_do_not_matter, what_was_not_read_may_be_assumed,
+    who_was_away_may_begin,
+};
