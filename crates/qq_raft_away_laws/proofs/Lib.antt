@@ -2,4 +2,5 @@ mod Above
 mod Assumed
 mod Begin
 mod Commits
+mod Returns
 mod Still

@@ -17,12 +17,13 @@ abbrev pub assumed_lane : ℕ → Lane
 assumed_lane t = record { op = 1; term = t; vote = None; log = [] }
 
 -- a node's lane as it was read, or what is assumed in its place
-abbrev pub read_lane : (ℕ → Bool) → ℕ → (ℕ → Lane) → ℕ → Lane
-read_lane away t lane q = if away q then assumed_lane t else lane q
+abbrev pub read_lane : (ℕ → Bool) → (ℕ → ℕ) → (ℕ → Lane) → ℕ → Lane
+read_lane away t lane q = if away q then assumed_lane (t q) else lane q
 
--- each entry that was read has an earlier term
-abbrev pub AreBelow : (ℕ → Bool) → ℕ → (ℕ → Lane) → Type 0
-AreBelow away t lane = (q : ℕ) → away q ≡ false → (e : Entry) → In e (lane q).log → e.term.0 < t
+-- each entry that was read has an earlier term than those that are assumed
+abbrev pub AreBelow : (ℕ → Bool) → (ℕ → ℕ) → (ℕ → Lane) → Type 0
+AreBelow away t lane =
+    (p q : ℕ) → away p ≡ true → away q ≡ false → (e : Entry) → In e (lane q).log → e.term.0 < t p
 
 -- ---- who moves
 

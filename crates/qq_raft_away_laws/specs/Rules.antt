@@ -3,13 +3,13 @@ use Rattle.std.specs.Prelude.{◌≡◌, ◌+◌, ℕ, Bool, true, false, List, 
 use Rattle.std.specs.List.{list_all, list_any}
 use Rattle.qq_base.specs.Fronts.{put}
 use Rattle.qq_entry.specs.declared.command.Entry.{Entry}
-use Rattle.qq_raft_protocol.specs.World.{Lane}
+use Rattle.qq_raft_protocol.specs.World.{Lane, Member, opened}
 use Rattle.qq_raft_protocol.specs.Safe.{IsSupported}
 use Rattle.qq_raft_away_laws.specs.Away.{assumed_lane, read_lane}
 
 -- ---- who is away
 
--- the members of a queue, and what recovery found of it on each node, a lane without a change where that is nothing
+-- the members of a queue, and what recovery found of it on each node: a lane without a change where that is nothing
 pub record Reading : Type 0 where
   pub members : List ℕ
   pub lane : ℕ → Lane
@@ -17,18 +17,17 @@ pub record Reading : Type 0 where
 abbrev pub has_change : Lane → Bool
 has_change lane = nat_lt 0 lane.op
 
-abbrev pub is_member : Reading → ℕ → Bool
-is_member r node = list_any (λ (q : ℕ). nat_eq q node) r.members
+abbrev pub is_used : Reading → Bool
+is_used r = list_any (λ (q : ℕ). has_change (r.lane q)) r.members
 
--- a queue of this node has a change on another one
-abbrev pub is_elsewhere : ℕ → Reading → Bool
-is_elsewhere node r = is_member r node && list_any (λ (q : ℕ). not (nat_eq q node) && has_change (r.lane q)) r.members
+abbrev pub is_used_at : ℕ → Reading → Bool
+is_used_at node r = list_any (nat_eq node) r.members && is_used r
 
--- A node is new among old ones where no change of any queue was found on it, and one of its queues has a change on
--- another node. It is a matter of lanes and not of files: a disk that was opened and never used has a file.
+-- A node is new among old ones where no change of any queue was found on it, and a queue of which it is a member has one
+-- on another node. It is a matter of lanes and not of files: a disk that was opened and never used has a file.
 abbrev pub is_new : List Reading → ℕ → Bool
 is_new readings node =
-    list_all (λ (r : Reading). not (has_change (r.lane node))) readings && list_any (is_elsewhere node) readings
+    list_all (λ (r : Reading). not (has_change (r.lane node))) readings && list_any (is_used_at node) readings
 
 -- a node is away where its disk failed, or where it is new among old ones
 abbrev pub is_away : (ℕ → Bool) → List Reading → ℕ → Bool
@@ -48,20 +47,32 @@ latest_of lane (q ∷ qs) = max (latest_term (lane q).log) (latest_of lane qs)
 
 -- one term more than each entry that was read
 abbrev pub term_above : (ℕ → Bool) → (ℕ → Lane) → List ℕ → ℕ
-term_above away lane members = latest_of (read_lane away 0 lane) members + 1
+term_above away lane members = latest_of (read_lane away (λ p. 0) lane) members + 1
 
 -- the lanes that a queue's group begins with
 abbrev pub opening_lane : (ℕ → Bool) → (ℕ → Lane) → List ℕ → ℕ → Lane
-opening_lane away lane members = read_lane away (term_above away lane members) lane
+opening_lane away lane members = read_lane away (λ p. term_above away lane members) lane
+
+abbrev pub opening : List ℕ → (ℕ → Bool) → (ℕ → Lane) → ℕ → Member
+opening members away lane q = opened (opening_lane away lane members q)
 
 -- ---- when they take part
 
--- A failed node is taken up with the lane that its restart finds where the lanes of the opening, with this one among
--- them, support an audit. Those that are away still have a later term than its entries too.
+-- the opening as it would have been with a lane that is found later; who began meanwhile has what it began with
+abbrev pub reopening : List ℕ → (ℕ → Bool) → (ℕ → Lane) → ℕ → Lane → ℕ → Member
+reopening members away lane k found = opening members (put k false away) (put k found lane)
+
+-- A failed node is taken up with what its restart finds where the lanes of the opening, with this one in its place,
+-- support an audit. Who is still away is assumed to have a later term than the entries of this one too.
 abbrev pub MayReturn : List ℕ → (ℕ → Bool) → (ℕ → Lane) → ℕ → Lane → Type 0
 MayReturn members away lane k found =
     IsSupported members (λ q l. l ≡ opening_lane (put k false away) (put k found lane) members q) []
 
--- a new node begins where the queue has a ready leader, with that leader's term where it is later than what was assumed
+-- A new node begins where each of its queues that was used has a ready leader.
+abbrev pub may_begin : (Reading → Bool) → List Reading → ℕ → Bool
+may_begin has_leader readings node =
+    list_all (λ (r : Reading). not (is_used_at node r) || has_leader r) readings
+
+-- with the leader's term where that is later than what was assumed
 abbrev pub first_lane : ℕ → ℕ → Lane
 first_lane t leader = assumed_lane (max t leader)

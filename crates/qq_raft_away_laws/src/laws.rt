@@ -15,10 +15,10 @@ ghost use Rattle.qq_raft_away_laws.specs.Away.{AgreeBut, AreBelow, AreStill, Dif
 /// assumed in their place, with a later term than each entry that was read. So what is refused over assumed
 /// lanes is refused over all others. A group may begin with them.
 pub fn what_was_not_read_may_be_assumed()
-    ensures support { (members : List ℕ) (away : ℕ → Bool) (t : ℕ) (lane : ℕ → Lane)
+    ensures support { (members : List ℕ) (away : ℕ → Bool) (t : ℕ → ℕ) (lane : ℕ → Lane)
         (audit : List Entry) → AreBelow away t lane → IsSupported members (λ q l. l ≡ lane q) audit →
         IsSupported members (λ q l. l ≡ read_lane away t lane q) [] }
-    ensures start { (members : List ℕ) (away : ℕ → Bool) (t : ℕ) (lane : ℕ → Lane)
+    ensures start { (members : List ℕ) (away : ℕ → Bool) (t : ℕ → ℕ) (lane : ℕ → Lane)
         (audit : List Entry) → ((q : ℕ) → (In q members → ⊥) → (lane q).log ≡ []) →
         AreBelow away t lane → IsSupported members (λ q l. l ≡ lane q) audit →
         IsStart members (λ q. opened (read_lane away t lane q)) [] }

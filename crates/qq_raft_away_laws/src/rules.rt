@@ -1,0 +1,51 @@
+//! What follows from the rules by which members are away, and take part again.
+ghost use Rattle.std.specs.Prelude.{◌≡◌, ◌<◌, ◌≤◌, Bool, true, false, List, [], ℕ};
+ghost use Rattle.qq_raft_protocol.specs.Facts.{In};
+ghost use Rattle.qq_raft_protocol.specs.Moves.{Move, run, Allowed, AreAllowed};
+ghost use Rattle.qq_raft_protocol.specs.Moves.Move.{Restart};
+ghost use Rattle.qq_raft_protocol.specs.Starts.{IsStart};
+ghost use Rattle.qq_raft_protocol.specs.World.{Lane, start_world};
+ghost use Rattle.qq_raft_away_laws.specs.Away.{AreBelow, AreStill};
+ghost use Rattle.qq_raft_away_laws.specs.Rules.{MayReturn, Reading, is_new, may_begin, opening, reopening, term_above};
+
+/// A law: a node is new where nothing of any queue was found on it, and something of one of its queues on
+/// another node. On new disks alone nobody is. A new node begins where each such queue has a ready leader.
+pub fn a_node_is_new_among_old_ones()
+    ensures blank { (readings : List Reading) (node : ℕ) (r : Reading) →
+        is_new readings node ≡ true → In r readings → (r.lane node).op ≡ 0 }
+    ensures new { (readings : List Reading) (node : ℕ) (r : Reading) (q : ℕ) →
+        ((s : Reading) → In s readings → (s.lane node).op ≡ 0) → In r readings →
+        In node r.members → In q r.members → 0 < (r.lane q).op → is_new readings node ≡ true }
+    ensures alone { (readings : List Reading) (node : ℕ) →
+        ((r : Reading) → In r readings → (q : ℕ) → In q r.members → (r.lane q).op ≡ 0) →
+        is_new readings node ≡ false }
+    ensures begins { (has_leader : Reading → Bool) (readings : List Reading) (node : ℕ)
+        (r : Reading) (q : ℕ) → may_begin has_leader readings node ≡ true → In r readings →
+        In node r.members → In q r.members → 0 < (r.lane q).op → has_leader r ≡ true }
+{}
+
+/// A law: the term that is assumed is the first one that is later than each entry that was read.
+pub fn the_next_term_is_assumed()
+    ensures above { (members : List ℕ) (away : ℕ → Bool) (lane : ℕ → Lane) →
+        ((q : ℕ) → (In q members → ⊥) → (lane q).log ≡ []) →
+        AreBelow away (λ p. term_above away lane members) lane }
+    ensures next { (members : List ℕ) (away : ℕ → Bool) (lane : ℕ → Lane) (t p : ℕ) →
+        away p ≡ true → AreBelow away (λ q. t) lane → 0 < t → term_above away lane members ≤ t }
+{}
+
+/// A law: a failed node whose lane may return was there all the time. The group could have begun with that
+/// lane, what it has done since was allowed then too, and the restart with it is one more move.
+pub fn a_failed_node_may_return()
+    ensures start { (members : List ℕ) (away : ℕ → Bool) (lane : ℕ → Lane) (k : ℕ) (found : Lane) →
+        ((q : ℕ) → (In q members → ⊥) → (lane q).log ≡ []) → In k members →
+        MayReturn members away lane k found →
+        IsStart members (reopening members away lane k found) [] }
+    ensures allowed { (members : List ℕ) (away : ℕ → Bool) (lane : ℕ → Lane) (k : ℕ)
+        (found : Lane) (moves : List Move) → away k ≡ true → AreStill away moves →
+        AreAllowed members (start_world (opening members away lane) []) moves →
+        AreAllowed members (start_world (reopening members away lane k found) []) moves }
+    ensures restart { (members : List ℕ) (away : ℕ → Bool) (lane : ℕ → Lane) (k : ℕ)
+        (found : Lane) (moves : List Move) → away k ≡ true → AreStill away moves →
+        Allowed members (run (start_world (reopening members away lane k found) []) moves)
+        (Restart k found) }
+{}
