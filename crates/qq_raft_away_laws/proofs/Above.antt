@@ -5,12 +5,12 @@ use Rattle.std.proofs.lemmas.Bool.{cases_lt}
 use Rattle.qq_base.specs.Fronts.{put}
 use Rattle.qq_base.proofs.Puts.{put-each, put-other}
 use Rattle.qq_entry.specs.declared.command.Entry.{Entry}
-use Rattle.qq_raft_protocol.specs.World.{Lane, Member, Role, Ask, Grant, World, lanes, opened, start_world}
+use Rattle.qq_raft_protocol.specs.World.{Lane, Member, Role, Ask, Grant, World, lanes, start_world}
 use Rattle.qq_raft_protocol.specs.World.Role.{Follower, Candidate, Leader}
-use Rattle.qq_raft_protocol.specs.Facts.{add, In, Most, Elects}
+use Rattle.qq_raft_protocol.specs.Facts.{add, In, Most}
 use Rattle.qq_raft_protocol.specs.Moves.{Move, push, next_lane, stays, after, Allowed, run, AreAllowed}
 use Rattle.qq_raft_protocol.specs.Moves.Move.{Write, Stand, Vote, Lead, Append, Send, Reply, Learn, Commit, Notice, Restart, Follow}
-use Rattle.qq_raft_protocol.specs.Safe.{IsLaneOf, HasVoted}
+use Rattle.qq_raft_protocol.specs.Safe.{HasVoted}
 use Rattle.qq_raft_protocol.specs.Starts.{IsStart}
 use Rattle.qq_raft_protocol.proofs.Kept.{voted_term}
 use Rattle.qq_raft_protocol.proofs.Lists.{In-filter}
@@ -220,8 +220,9 @@ leads-after {u = u} {c = c} {w = w} (Lead k) a may =
     (λ q other is. a.leads q is)
 leads-after {u = u} {w = w} (Append k e) a may =
     let m = w.member k in
-    put-each (λ q x. w.role q ≡ Leader → u < x.mine.term) k (push m (next_lane m m.mine.term m.mine.vote (add m.mine.log e)))
-    w.member (λ is. a.leads k is) (λ q other is. a.leads q is)
+    let lane = next_lane m m.mine.term m.mine.vote (add m.mine.log e) in
+    put-each (λ q x. w.role q ≡ Leader → u < x.mine.term) k (push m lane) w.member (λ is. a.leads k is)
+    (λ q other is. a.leads q is)
 leads-after {u = u} {w = w} (Notice k op) a may =
     let m = w.member k in
     put-each (λ q x. w.role q ≡ Leader → u < x.mine.term) k

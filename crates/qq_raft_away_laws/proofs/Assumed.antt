@@ -1,5 +1,6 @@
 -- Lanes that were not read may be assumed.
-use Rattle.std.proofs.Common.{◌≡◌, ◌⊎◌, ℕ, ◌≤◌, ◌<◌, Bool, true, false, cond, List, [], refl, sym, ap, subst, arith, inl, inr}
+use Rattle.std.proofs.Common.{◌≡◌, ◌⊎◌, ℕ, ◌≤◌, ◌<◌, Bool, true, false, cond, List, [], refl, sym, ap, subst, ◌∙◌, arith, inl, inr}
+use Rattle.std.proofs.lemmas.Bool.{false≢true}
 use Rattle.qq_base.specs.Fronts.{IsFront}
 use Rattle.qq_entry.specs.declared.command.Entry.{Entry}
 use Rattle.qq_raft_protocol.specs.World.{Lane, lanes, opened}
@@ -25,6 +26,13 @@ IsEither away t lane q l =
 pub read_cases : (away : ℕ → Bool) (t : ℕ → ℕ) (lane : ℕ → Lane) (q : ℕ)
     → IsEither away t lane q (read_lane away t lane q)
 read_cases away t lane q = read_by (away q) (away q) (assumed_lane (t q)) (lane q) refl
+
+pub read_here : (away : ℕ → Bool) (t : ℕ → ℕ) (lane : ℕ → Lane) (q : ℕ) → away q ≡ false
+    → read_lane away t lane q ≡ lane q
+read_here away t lane q here = elim (read_cases away t lane q) [
+  | inl new ↦ absurd (false≢true (sym here ∙ new.0))
+  | inr own ↦ own.1
+]
 
 lane_cases : (away : ℕ → Bool) (t : ℕ → ℕ) (lane : ℕ → Lane) (q : ℕ) (l : Lane) → l ≡ read_lane away t lane q
     → IsEither away t lane q l

@@ -1,18 +1,16 @@
 -- Who was away may take part once the others have committed.
-use Rattle.std.proofs.Common.{◌≡◌, ◌⊎◌, ℕ, Bool, true, false, List, [], ◌∷◌, ◌++◌, refl, sym, ap, subst, ◌∙◌, inl, inr}
-use Rattle.std.proofs.lemmas.Bool.{false≢true}
+use Rattle.std.proofs.Common.{◌≡◌, ℕ, Bool, true, false, List, [], ◌∷◌, refl, sym, ap, subst, ◌∙◌}
 use Rattle.qq_base.specs.Fronts.{IsFront}
 use Rattle.qq_base.proofs.Fronts.{front-trans}
 use Rattle.qq_entry.specs.declared.command.Entry.{Entry}
 use Rattle.qq_raft_protocol.specs.World.{Member, Role, World, start_world}
 use Rattle.qq_raft_protocol.specs.World.Role.{Leader}
 use Rattle.qq_raft_protocol.specs.Facts.{add}
-use Rattle.qq_raft_protocol.specs.Moves.{Move, after, Allowed, run, AreAllowed}
+use Rattle.qq_raft_protocol.specs.Moves.{Move, after, run, AreAllowed}
 use Rattle.qq_raft_protocol.specs.Moves.Move.{Commit}
-use Rattle.qq_raft_protocol.specs.Starts.{IsStart}
 use Rattle.qq_raft_protocol.proofs.Runs.{safe-run, audit-stays}
 use Rattle.qq_raft_protocol.proofs.Shades.{shaded-audit, shaded-run, shaded-start, next}
-use Rattle.qq_raft_away_laws.specs.Away.{mover, AreStill, IsBeside, IsReady}
+use Rattle.qq_raft_away_laws.specs.Away.{AreStill, IsBeside, IsReady}
 use Rattle.qq_raft_away_laws.proofs.Commits.{ready-after, commit-after, commit-known}
 use Rattle.qq_raft_away_laws.proofs.Still.{Follows, allowed-after, still-run}
 

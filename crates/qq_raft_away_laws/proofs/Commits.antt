@@ -1,15 +1,14 @@
 -- What a leader commits stands after the audit of the start.
-use Rattle.std.proofs.Common.{◌≡◌, ◌⊎◌, ℕ, ◌+◌, ◌≤◌, ◌<◌, List, [], ◌∷◌, ◌++◌, length, refl, sym, ap, subst, arith, inl, inr}
+use Rattle.std.proofs.Common.{◌≡◌, ◌⊎◌, ℕ, ◌≤◌, ◌<◌, List, [], ◌∷◌, length, refl, subst, arith, inl, inr}
 use Rattle.std.proofs.lemmas.Bool.{cases_lt}
-use Rattle.qq_base.specs.Fronts.{IsFront, put}
-use Rattle.qq_base.proofs.Fronts.{front-trans, front-compare, front-shorter, front-length}
+use Rattle.qq_base.specs.Fronts.{IsFront}
+use Rattle.qq_base.proofs.Fronts.{front-trans, front-compare, front-shorter}
 use Rattle.qq_base.proofs.Puts.{put-same}
 use Rattle.qq_entry.specs.declared.command.Entry.{Entry}
 use Rattle.qq_raft_protocol.specs.World.{Lane, Member, World, lanes, start_world}
 use Rattle.qq_raft_protocol.specs.Facts.{add, In}
 use Rattle.qq_raft_protocol.specs.Moves.{Move, longer, after, Allowed, run, AreAllowed}
 use Rattle.qq_raft_protocol.specs.Moves.Move.{Commit}
-use Rattle.qq_raft_protocol.specs.Safe.{IsSafe}
 use Rattle.qq_raft_protocol.specs.Starts.{IsStart}
 use Rattle.qq_raft_protocol.proofs.Lists.{In-front}
 use Rattle.qq_raft_protocol.proofs.Logs.{In-add}
@@ -18,7 +17,7 @@ use Rattle.qq_raft_protocol.proofs.Runs.{safe-run, audit-stays}
 use Rattle.qq_raft_protocol.proofs.Shades.{Shaded, shaded-safe, shaded-audit, shaded-run, shaded-start, next}
 use Rattle.qq_raft_away_laws.specs.Away.{IsReady}
 use Rattle.qq_raft_away_laws.proofs.Above.{leader-above}
-use Rattle.qq_raft_away_laws.proofs.Still.{longer_long, longer_short}
+use Rattle.qq_raft_away_laws.proofs.Still.{longer_long}
 
 -- ---- an entry of the start is of an earlier term
 
@@ -61,7 +60,8 @@ pub ready-after : (members : List ℕ) (member : ℕ → Member) (audit : List E
 ready-after members member audit moves q a e st may r =
     let w = run (start_world member audit) moves in
     let safe = safe-run members member audit moves st may in
-    comes_after a e st (λ p l here f inside. leader-above members member audit moves q p l f st may r.leads here inside) r.own
+    comes_after a e st
+    (λ p l here f inside. leader-above members member audit moves q p l f st may r.leads here inside) r.own
     (audit-stays members member audit [] moves st tt may) (front-trans r.done (safe.done q).0)
 
 -- ---- what it commits
@@ -81,7 +81,8 @@ commit-known {w = w} i a e s may =
     elim (done-cases (w.done i) (add a e) (cases_lt (length (w.done i)) (length (add a e)))) [
       | inl all ↦
           subst (λ (x : List Entry). IsFront x v.audit) all
-          (subst (λ (x : List Entry). IsFront x v.audit) (put-same i (longer (w.done i) (add a e)) w.done) (now.done i).0)
+          (subst (λ (x : List Entry). IsFront x v.audit) (put-same i (longer (w.done i) (add a e)) w.done)
+          (now.done i).0)
       | inr le ↦
           front-trans (front-shorter may.1 (before.done i).1 le)
           (front-trans (before.done i).0 (shaded-audit (Commit i a e ∷ []) w s (may, tt)))
@@ -94,6 +95,8 @@ pub commit-after : (members : List ℕ) (member : ℕ → Member) (audit : List 
 commit-after members member audit moves i a e st may commit =
     let w = run (start_world member audit) moves in
     let s = shaded-run moves (start_world member audit) (shaded-start st) may in
-    comes_after a e st (λ p l here f inside. leader-above members member audit moves i p l f st may commit.0 here inside) commit.2
-    (front-trans (audit-stays members member audit [] moves st tt may) (shaded-audit (Commit i a e ∷ []) w s (commit, tt)))
+    comes_after a e st
+    (λ p l here f inside. leader-above members member audit moves i p l f st may commit.0 here inside) commit.2
+    (front-trans (audit-stays members member audit [] moves st tt may)
+    (shaded-audit (Commit i a e ∷ []) w s (commit, tt)))
     (commit-known i a e s commit)

@@ -1,6 +1,6 @@
 -- What the rules say: who is new, what term is assumed, and who may take part again.
-use Rattle.std.proofs.Common.{◌≡◌, ◌⊎◌, ℕ, ◌+◌, ◌-◌, ◌≤◌, ◌<◌, Bool, true, false, cond, List, [], ◌∷◌, refl, sym, ap, subst, ◌∙◌, arith, inl, inr}
-use Rattle.std.specs.Prelude.{max, not, nat_eq, nat_lt, ◌&&◌, ◌||◌}
+use Rattle.std.proofs.Common.{◌≡◌, ℕ, ◌-◌, ◌≤◌, ◌<◌, Bool, true, false, List, [], ◌∷◌, refl, sym, ap, subst, ◌∙◌, arith, inl, inr}
+use Rattle.std.specs.Prelude.{max, not, nat_eq, ◌&&◌, ◌||◌}
 use Rattle.std.specs.List.{list_all, list_any}
 use Rattle.std.proofs.Math.Nat.{le-max_left, le-max_right, max-le}
 use Rattle.std.proofs.lemmas.Bool.{false≢true, and_parts, lt-ltb, ltb-false, le-ltb, eq-eqb}
@@ -13,9 +13,9 @@ use Rattle.qq_raft_protocol.specs.Moves.{Move, after, Allowed, run, AreAllowed}
 use Rattle.qq_raft_protocol.specs.Moves.Move.{Write, Stand, Vote, Lead, Append, Send, Reply, Learn, Commit, Notice, Restart, Follow}
 use Rattle.qq_raft_protocol.specs.Starts.{IsStart}
 use Rattle.qq_raft_protocol.proofs.Lists.{In-cases}
-use Rattle.qq_raft_away_laws.specs.Away.{mover, read_lane, AreBelow, AreStill, AgreeBut}
-use Rattle.qq_raft_away_laws.specs.Rules.{Reading, has_change, is_used, is_used_at, is_new, latest_term, latest_of, term_above, opening_lane, opening, reopening, MayReturn, may_begin}
-use Rattle.qq_raft_away_laws.proofs.Assumed.{read_cases, read_log, lanes-start}
+use Rattle.qq_raft_away_laws.specs.Away.{assumed_lane, mover, read_lane, AreBelow, AreStill, AgreeBut}
+use Rattle.qq_raft_away_laws.specs.Rules.{Reading, has_change, is_used, is_used_at, is_new, latest_term, latest_of, term_above, opening_lane, opening, reopening, MayReturn, may_begin, first_lane}
+use Rattle.qq_raft_away_laws.proofs.Assumed.{read_cases, read_here, read_log, lanes-start}
 use Rattle.qq_raft_away_laws.proofs.Still.{still-allowed}
 
 -- ---- tests of lists
@@ -68,7 +68,8 @@ new-blank readings node r is here =
     let all = (and_parts (list_all (λ (s : Reading). not (has_change (s.lane node))) readings)
     (list_any (is_used_at node) readings) is).0 in
     no_change (r.lane node)
-    (not-false (has_change (r.lane node)) (all-in (λ (s : Reading). not (has_change (s.lane node))) r readings all here))
+    (not-false (has_change (r.lane node))
+    (all-in (λ (s : Reading). not (has_change (s.lane node))) r readings all here))
 
 used-there : (r : Reading) (q : ℕ) → In q r.members → 0 < (r.lane q).op → is_used r ≡ true
 used-there r q there lt = in-any (λ (p : ℕ). has_change (r.lane p)) q r.members there (lt-ltb 0 (r.lane q).op lt)
@@ -76,7 +77,8 @@ used-there r q there lt = in-any (λ (p : ℕ). has_change (r.lane p)) q r.membe
 used_at-there : (node : ℕ) (r : Reading) (q : ℕ) → In node r.members → In q r.members → 0 < (r.lane q).op
     → is_used_at node r ≡ true
 used_at-there node r q mine there lt =
-    ap (λ b. b && is_used r) (in-any (nat_eq node) node r.members mine (eq-eqb node node refl)) ∙ used-there r q there lt
+    ap (λ b. b && is_used r) (in-any (nat_eq node) node r.members mine (eq-eqb node node refl))
+    ∙ used-there r q there lt
 
 pub blank-new : (readings : List Reading) (node : ℕ) (r : Reading) (q : ℕ)
     → ((s : Reading) → In s readings → (s.lane node).op ≡ 0) → In r readings → In node r.members → In q r.members
@@ -139,13 +141,6 @@ lane-least : (lane : ℕ → Lane) (members : List ℕ) (t : ℕ)
     → ((q : ℕ) (e : Entry) → In e (lane q).log → e.term.0 ≤ t) → latest_of lane members ≤ t
 lane-least lane [] t each = omega arith
 lane-least lane (q ∷ qs) t each = max-le (term-least (lane q).log t (each q)) (lane-least lane qs t each)
-
-read_here : (away : ℕ → Bool) (t : ℕ → ℕ) (lane : ℕ → Lane) (q : ℕ) → away q ≡ false
-    → read_lane away t lane q ≡ lane q
-read_here away t lane q here = elim (read_cases away t lane q) [
-  | inl new ↦ absurd (false≢true (sym here ∙ new.0))
-  | inr own ↦ own.1
-]
 
 pub term-above : (members : List ℕ) (away : ℕ → Bool) (lane : ℕ → Lane)
     → ((q : ℕ) → (In q members → ⊥) → (lane q).log ≡ [])
@@ -246,3 +241,22 @@ reopen-restart members away lane k found moves is still =
     subst (λ (m : Member). In found (lanes m))
     (sym (run-keeps away moves (start_world (reopening members away lane k found) []) k is still
     ∙ found-there members away lane k found)) (inl refl)
+
+-- ---- a later term
+
+pub below-later : (away : ℕ → Bool) (lane : ℕ → Lane) (t : ℕ → ℕ) (k leader : ℕ) → AreBelow away t lane
+    → AreBelow away (put k (max (t k) leader) t) lane
+below-later away lane t k leader below p q is here e inside =
+    put-each (λ (i u : ℕ). away i ≡ true → e.term.0 < u) k (max (t k) leader) t
+    (λ own.
+    let lt = below k q own here e inside in
+    let le = le-max_left (t k) leader in
+    omega (arith, lt, le))
+    (λ i other own. below i q own here e inside) p is
+
+pub first-later : (away : ℕ → Bool) (lane : ℕ → Lane) (t : ℕ → ℕ) (k leader : ℕ) → away k ≡ true
+    → read_lane away (put k (max (t k) leader) t) lane k ≡ first_lane (t k) leader
+first-later away lane t k leader is = elim (read_cases away (put k (max (t k) leader) t) lane k) [
+  | inl new ↦ new.1 ∙ ap assumed_lane (put-same k (max (t k) leader) t)
+  | inr own ↦ absurd (false≢true (sym own.0 ∙ is))
+]

@@ -1,6 +1,6 @@
 -- Lanes of members that make no move don't matter.
-use Rattle.std.proofs.Common.{◌≡◌, ◌⊎◌, ℕ, ◌+◌, ◌≤◌, ◌<◌, Bool, true, false, cond, List, [], ◌∷◌, ◌++◌, length, Option, Some, None, refl, sym, ap, subst, ◌∙◌, arith, inl, inr}
-use Rattle.std.specs.Prelude.{filter, nat_le, nat_eq, nat_lt}
+use Rattle.std.proofs.Common.{◌≡◌, ◌⊎◌, ℕ, ◌+◌, ◌≤◌, ◌<◌, Bool, true, false, cond, List, [], ◌∷◌, length, Option, Some, refl, sym, ap, subst, ◌∙◌, arith, inl, inr}
+use Rattle.std.specs.Prelude.{filter, nat_le, nat_eq}
 use Rattle.std.proofs.lemmas.Bool.{cases_lt, false≢true, lt-ltb, le-ltb}
 use Rattle.qq_base.specs.Fronts.{IsFront, put}
 use Rattle.qq_base.proofs.Puts.{put-each}
@@ -121,23 +121,28 @@ allowed-aside {w = w} {member = member} members audit (Vote k ask) b e may =
       vote_is = may.vote_is;
       current = may.current;
     })
-allowed-aside {w = w} {member = member} members audit (Lead k) b e may =
-    (may.0, subst (λ (x : Member). Most members (Elects (aside w member audit) x.mine.term k)) (sym e)
-    (Most-map (λ q x. elects-aside audit b x) may.1))
-allowed-aside members audit (Append k entry) b e may = (may.0, subst (λ (x : Member). entry.term.0 ≡ x.mine.term) (sym e) may.1)
+allowed-aside {w = w} {member = member} members audit (Lead k) b e may = (
+  may.0,
+  subst (λ (x : Member). Most members (Elects (aside w member audit) x.mine.term k)) (sym e)
+      (Most-map (λ q x. elects-aside audit b x) may.1),
+)
+allowed-aside members audit (Append k entry) b e may =
+    (may.0, subst (λ (x : Member). entry.term.0 ≡ x.mine.term) (sym e) may.1)
 allowed-aside members audit (Send k front done) b e may =
     (may.0, subst (λ (x : Member). IsFront front x.mine.log) (sym e) may.1, may.2)
 allowed-aside {w = w} {member = member} members audit (Reply k sent) b e may =
     subst (λ (x : Member). HasSent (aside w member audit) x.mine sent) (sym e) (sent-aside member audit may)
-allowed-aside {w = w} {member = member} members audit (Learn k sent y) b e may =
-    (subst (λ (x : Member). HasSent (aside w member audit) x.mine sent) (sym e) (sent-aside member audit may.0), may.1, may.2)
-allowed-aside {w = w} {member = member} members audit (Commit k a entry) b e may =
-    (
-      may.0,
-      subst (λ (x : Member). IsFront (add a entry) x.mine.log) (sym e) may.1,
-      subst (λ (x : Member). entry.term.0 ≡ x.mine.term) (sym e) may.2,
-      Most-map (λ q x. stored-aside audit b x) may.3,
-    )
+allowed-aside {w = w} {member = member} members audit (Learn k sent y) b e may = (
+  subst (λ (x : Member). HasSent (aside w member audit) x.mine sent) (sym e) (sent-aside member audit may.0),
+  may.1,
+  may.2,
+)
+allowed-aside {w = w} {member = member} members audit (Commit k a entry) b e may = (
+  may.0,
+  subst (λ (x : Member). IsFront (add a entry) x.mine.log) (sym e) may.1,
+  subst (λ (x : Member). entry.term.0 ≡ x.mine.term) (sym e) may.2,
+  Most-map (λ q x. stored-aside audit b x) may.3,
+)
 allowed-aside members audit (Notice k op) b e may =
     subst (λ (x : Member). (x.noticed ≤ op) × (op ≤ x.mine.op)) (sym e) may
 allowed-aside members audit (Restart k lane) b e may = subst (λ (x : Member). In lane (lanes x)) (sym e) may
@@ -193,7 +198,8 @@ after-aside w member audit (Learn k sent x) e =
     ap (λ (y : List Entry). record w { member = member; done = put k (longer (w.done k) x) w.done; audit = y })
     (longer-longer audit w.audit x)
 after-aside w member audit (Commit k a entry) e =
-    ap (λ (y : List Entry). record w { member = member; done = put k (longer (w.done k) (add a entry)) w.done; audit = y })
+    ap
+    (λ (y : List Entry). record w { member = member; done = put k (longer (w.done k) (add a entry)) w.done; audit = y })
     (longer-longer audit w.audit (add a entry))
 after-aside w member audit (Notice k op) e = refl
 after-aside w member audit (Restart k lane) e =
@@ -351,7 +357,8 @@ follows-after {away = away} {audit = audit} {w = w} {v = v} m b here =
 pub allowed-after : {away : ℕ → Bool} {audit : List Entry} {w v : World} (members : List ℕ) (m : Move)
     → Follows away audit w v → away (mover m) ≡ false → Allowed members w m → Allowed members v m
 allowed-after {audit = audit} members m b here may =
-    from-aside (λ x. Allowed members x m) b (allowed-aside members audit m (substitute b) (b.differs.others (mover m) here) may)
+    from-aside (λ x. Allowed members x m) b
+    (allowed-aside members audit m (substitute b) (b.differs.others (mover m) here) may)
 
 pub record Comes (members : List ℕ) (away : ℕ → Bool) (audit : List Entry) (moves : List Move) (w v : World)
     : Type 0 where

@@ -53,13 +53,14 @@ AreStill away (m ∷ ms) = (away (mover m) ≡ false) × AreStill away ms
 abbrev pub AgreeBut : (ℕ → Bool) → (ℕ → Member) → (ℕ → Member) → Type 0
 AgreeBut away one two = (q : ℕ) → away q ≡ false → two q ≡ one q
 
--- the second world is the first but for the members that are away, and its audit is this one until the first's is longer
+-- the second world is the first but for the members that are away, and its audit is this one until the first has a
+-- longer one
 pub record DiffersIn (away : ℕ → Bool) (audit : List Entry) (w v : World) : Type 0 where
   pub others : AgreeBut away w.member v.member
   pub rest : v ≡ record w { member = v.member; audit = longer audit w.audit }
 
--- The group begins with `one`, whose lanes were read or assumed. Beside it stand the members as they were before some of
--- their disks failed or were replaced, and the audit that these supported.
+-- The group begins with `one`, whose lanes were read or assumed. Beside it stand the members as they were before some
+-- of their disks failed or were replaced, and the audit that these supported.
 pub record IsBeside (members : List ℕ) (away : ℕ → Bool) (one two : ℕ → Member) (audit : List Entry) : Type 0 where
   pub start : IsStart members one []
   pub before : IsStart members two audit

@@ -1,2 +1,3 @@
 pub mod Away
+pub mod Replaced
 pub mod Rules

@@ -1,5 +1,5 @@
 -- By what rule members are away, and when they take part again.
-use Rattle.std.specs.Prelude.{◌≡◌, ◌+◌, ℕ, Bool, true, false, List, [], ◌∷◌, max, nat_eq, nat_lt, not, ◌&&◌, ◌||◌}
+use Rattle.std.specs.Prelude.{◌≡◌, ◌+◌, ℕ, Bool, false, List, [], ◌∷◌, max, nat_eq, nat_lt, not, ◌&&◌, ◌||◌}
 use Rattle.std.specs.List.{list_all, list_any}
 use Rattle.qq_base.specs.Fronts.{put}
 use Rattle.qq_entry.specs.declared.command.Entry.{Entry}
@@ -23,8 +23,8 @@ is_used r = list_any (λ (q : ℕ). has_change (r.lane q)) r.members
 abbrev pub is_used_at : ℕ → Reading → Bool
 is_used_at node r = list_any (nat_eq node) r.members && is_used r
 
--- A node is new among old ones where no change of any queue was found on it, and a queue of which it is a member has one
--- on another node. It is a matter of lanes and not of files: a disk that was opened and never used has a file.
+-- A node is new among old ones where no change of any queue was found on it, and a queue of which it is a member has
+-- one on another node. It is a matter of lanes and not of files: a disk that was opened and never used has a file.
 abbrev pub is_new : List Reading → ℕ → Bool
 is_new readings node =
     list_all (λ (r : Reading). not (has_change (r.lane node))) readings && list_any (is_used_at node) readings

@@ -16,7 +16,8 @@ ghost use Rattle.qq_raft_away_laws.specs.Away.{AgreeBut, AreBelow, AreStill, Dif
 /// lanes is refused over all others. A group may begin with them.
 pub fn what_was_not_read_may_be_assumed()
     ensures support { (members : List ℕ) (away : ℕ → Bool) (t : ℕ → ℕ) (lane : ℕ → Lane)
-        (audit : List Entry) → AreBelow away t lane → IsSupported members (λ q l. l ≡ lane q) audit →
+        (audit : List Entry) → AreBelow away t lane →
+        IsSupported members (λ q l. l ≡ lane q) audit →
         IsSupported members (λ q l. l ≡ read_lane away t lane q) [] }
     ensures start { (members : List ℕ) (away : ℕ → Bool) (t : ℕ → ℕ) (lane : ℕ → Lane)
         (audit : List Entry) → ((q : ℕ) → (In q members → ⊥) → (lane q).log ≡ []) →

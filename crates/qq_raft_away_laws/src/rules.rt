@@ -1,12 +1,13 @@
 //! What follows from the rules by which members are away, and take part again.
-ghost use Rattle.std.specs.Prelude.{◌≡◌, ◌<◌, ◌≤◌, Bool, true, false, List, [], ℕ};
+ghost use Rattle.std.specs.Prelude.{◌≡◌, ◌<◌, ◌≤◌, Bool, true, false, List, [], max, ℕ};
+ghost use Rattle.qq_base.specs.Fronts.{put};
 ghost use Rattle.qq_raft_protocol.specs.Facts.{In};
 ghost use Rattle.qq_raft_protocol.specs.Moves.{Move, run, Allowed, AreAllowed};
 ghost use Rattle.qq_raft_protocol.specs.Moves.Move.{Restart};
 ghost use Rattle.qq_raft_protocol.specs.Starts.{IsStart};
 ghost use Rattle.qq_raft_protocol.specs.World.{Lane, start_world};
-ghost use Rattle.qq_raft_away_laws.specs.Away.{AreBelow, AreStill};
-ghost use Rattle.qq_raft_away_laws.specs.Rules.{MayReturn, Reading, is_new, may_begin, opening, reopening, term_above};
+ghost use Rattle.qq_raft_away_laws.specs.Away.{AreBelow, AreStill, read_lane};
+ghost use Rattle.qq_raft_away_laws.specs.Rules.{MayReturn, Reading, first_lane, is_new, may_begin, opening, reopening, term_above};
 
 /// A law: a node is new where nothing of any queue was found on it, and something of one of its queues on
 /// another node. On new disks alone nobody is. A new node begins where each such queue has a ready leader.
@@ -31,6 +32,15 @@ pub fn the_next_term_is_assumed()
         AreBelow away (λ p. term_above away lane members) lane }
     ensures next { (members : List ℕ) (away : ℕ → Bool) (lane : ℕ → Lane) (t p : ℕ) →
         away p ≡ true → AreBelow away (λ q. t) lane → 0 < t → term_above away lane members ≤ t }
+{}
+
+/// A law: where a term may be assumed, so may a leader's that is later. A new node begins with it.
+pub fn a_later_term_may_be_assumed()
+    ensures below { (away : ℕ → Bool) (lane : ℕ → Lane) (t : ℕ → ℕ) (k leader : ℕ) →
+        AreBelow away t lane → AreBelow away (put k (max (t k) leader) t) lane }
+    ensures first { (away : ℕ → Bool) (lane : ℕ → Lane) (t : ℕ → ℕ) (k leader : ℕ) →
+        away k ≡ true →
+        read_lane away (put k (max (t k) leader) t) lane k ≡ first_lane (t k) leader }
 {}
 
 /// A law: a failed node whose lane may return was there all the time. The group could have begun with that
