@@ -14,7 +14,7 @@ use Rattle.qq_raft_protocol.specs.Moves.Move.{Write, Stand, Vote, Lead, Append, 
 use Rattle.qq_raft_protocol.specs.Starts.{IsStart}
 use Rattle.qq_raft_protocol.proofs.Lists.{In-cases}
 use Rattle.qq_raft_away_laws.specs.Away.{assumed_lane, mover, read_lane, AreBelow, AreStill, AgreeBut}
-use Rattle.qq_raft_away_laws.specs.Rules.{Reading, has_change, is_used, is_used_at, is_new, latest_term, latest_of, term_above, opening_lane, opening, reopening, MayReturn, may_begin, first_lane}
+use Rattle.qq_raft_away_laws.specs.Rules.{Reading, has_change, is_used, is_used_at, is_away, is_new, latest_term, latest_of, term_above, opening_lane, opening, reopening, MayReturn, may_begin, first_lane}
 use Rattle.qq_raft_away_laws.proofs.Assumed.{read_cases, read_here, read_log, lanes-start}
 use Rattle.qq_raft_away_laws.proofs.Still.{still-allowed}
 
@@ -109,6 +109,14 @@ pub begins-led : (has_leader : Reading → Bool) (readings : List Reading) (node
 begins-led has_leader readings node r q may here mine there lt =
     waits_by (is_used_at node r) (has_leader r) (used_at-there node r q mine there lt)
     (all-in (λ (s : Reading). not (is_used_at node s) || has_leader s) r readings may here)
+
+pub failed-away : (failed : ℕ → Bool) (readings : List Reading) (node : ℕ) → failed node ≡ true
+    → is_away failed readings node ≡ true
+failed-away failed readings node is = ap (λ b. b || is_new readings node) is
+
+pub present-away : (failed : ℕ → Bool) (readings : List Reading) (node : ℕ) → failed node ≡ false
+    → is_away failed readings node ≡ is_new readings node
+present-away failed readings node is = ap (λ b. b || is_new readings node) is
 
 -- ---- the term that is assumed
 

@@ -7,10 +7,11 @@ ghost use Rattle.qq_raft_protocol.specs.Moves.Move.{Restart};
 ghost use Rattle.qq_raft_protocol.specs.Starts.{IsStart};
 ghost use Rattle.qq_raft_protocol.specs.World.{Lane, start_world};
 ghost use Rattle.qq_raft_away_laws.specs.Away.{AreBelow, AreStill, read_lane};
-ghost use Rattle.qq_raft_away_laws.specs.Rules.{MayReturn, Reading, first_lane, is_new, may_begin, opening, reopening, term_above};
+ghost use Rattle.qq_raft_away_laws.specs.Rules.{MayReturn, Reading, first_lane, is_away, is_new, may_begin, opening, reopening, term_above};
 
 /// A law: a node is new where nothing of any queue was found on it, and something of one of its queues on
 /// another node. On new disks alone nobody is. A new node begins where each such queue has a ready leader.
+/// Who is new is away, and so is whose disk failed.
 pub fn a_node_is_new_among_old_ones()
     ensures blank { (readings : List Reading) (node : ℕ) (r : Reading) →
         is_new readings node ≡ true → In r readings → (r.lane node).op ≡ 0 }
@@ -23,6 +24,10 @@ pub fn a_node_is_new_among_old_ones()
     ensures begins { (has_leader : Reading → Bool) (readings : List Reading) (node : ℕ)
         (r : Reading) (q : ℕ) → may_begin has_leader readings node ≡ true → In r readings →
         In node r.members → In q r.members → 0 < (r.lane q).op → has_leader r ≡ true }
+    ensures failed { (failed : ℕ → Bool) (readings : List Reading) (node : ℕ) →
+        failed node ≡ true → is_away failed readings node ≡ true }
+    ensures present { (failed : ℕ → Bool) (readings : List Reading) (node : ℕ) →
+        failed node ≡ false → is_away failed readings node ≡ is_new readings node }
 {}
 
 /// A law: the term that is assumed is the first one that is later than each entry that was read.
