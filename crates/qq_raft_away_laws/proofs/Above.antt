@@ -16,10 +16,10 @@ use Rattle.qq_raft_protocol.proofs.Kept.{voted_term}
 use Rattle.qq_raft_protocol.proofs.Lists.{In-filter}
 use Rattle.qq_raft_protocol.proofs.Majorities.{shared, Most-map}
 
-follower_leads : Role.Follower ≡ Leader → ⊥
+pub follower_leads : Role.Follower ≡ Leader → ⊥
 follower_leads e = absurd cc
 
-candidate_leads : Role.Candidate ≡ Leader → ⊥
+pub candidate_leads : Role.Candidate ≡ Leader → ⊥
 candidate_leads e = absurd cc
 
 some_same : (a b : ℕ) → Some a ≡ Some b → a ≡ b
@@ -31,11 +31,11 @@ none_some o c e f = absurd cc
 -- ---- what a member's lanes keep
 
 -- all lanes that a crash may leave of a member are so
-abbrev Each : (Lane → Type 0) → Member → Type 0
+abbrev pub Each : (Lane → Type 0) → Member → Type 0
 Each P m = (l : Lane) → In l (lanes m) → P l
 
 -- terms rise, and a vote isn't taken back within a term
-abbrev Stays : (Lane → Type 0) → Type 0
+abbrev pub Stays : (Lane → Type 0) → Type 0
 Stays P =
     (own lane : Lane) → own.term ≤ lane.term → (own.term ≡ lane.term → (own.vote ≡ lane.vote) ⊎ (own.vote ≡ None))
     → P own → P lane
@@ -52,13 +52,13 @@ voted_by u c own lane rises vote same (inr le) =
       | inr nobody ↦ absurd (none_some own.vote c nobody same.1)
     ]
 
-voted-stays : (u c : ℕ) → Stays (HasVoted u c)
+pub voted-stays : (u c : ℕ) → Stays (HasVoted u c)
 voted-stays u c own lane rises vote voted = elim voted [
   | inl later ↦ inl (omega (arith, later, rises))
   | inr same ↦ voted_by u c own lane rises vote same (cases_lt u lane.term)
 ]
 
-term-stays : (u : ℕ) → Stays (λ l. u ≤ l.term)
+pub term-stays : (u : ℕ) → Stays (λ l. u ≤ l.term)
 term-stays u own lane rises vote le = omega (arith, rises, le)
 
 push-stays : (P : Lane → Type 0) (m : Member) (lane : Lane) → (P m.mine → P lane) → Each P m → Each P (push m lane)
@@ -73,20 +73,27 @@ pushed P w k lane f =
     put-each (λ q x. Each P (w.member q) → Each P x) k (push (w.member k) lane) w.member
     (push-stays P (w.member k) lane f) (λ q other each. each)
 
-each-after : (members : List ℕ) (P : Lane → Type 0) → Stays P → (w : World) (m : Move) → Allowed members w m
+-- what is so of the lane that a move adds
+abbrev pub Adds : (Lane → Type 0) → World → Move → Type 0
+Adds P w (Write k term vote log) = P (w.member k).mine → P (next_lane (w.member k) term vote log)
+Adds P w (Stand k) =
+    let m = w.member k in
+    P m.mine → P (next_lane m (m.mine.term + 1) (Some k) m.mine.log)
+Adds P w (Append k e) =
+    let m = w.member k in
+    P m.mine → P (next_lane m m.mine.term m.mine.vote (add m.mine.log e))
+Adds P w _ = Unit {0}
+
+pub each-moved : (members : List ℕ) (P : Lane → Type 0) (w : World) (m : Move) → Allowed members w m → Adds P w m
     → (q : ℕ) → Each P (w.member q) → Each P ((after w m).member q)
-each-after members P s w (Write k term vote log) may =
+each-moved members P w (Write k term vote log) may adds = pushed P w k (next_lane (w.member k) term vote log) adds
+each-moved members P w (Stand k) may adds =
     let m = w.member k in
-    pushed P w k (next_lane m term vote log) (s m.mine (next_lane m term vote log) may.term_rises may.vote_stays)
-each-after members P s w (Stand k) may =
+    pushed P w k (next_lane m (m.mine.term + 1) (Some k) m.mine.log) adds
+each-moved members P w (Append k e) may adds =
     let m = w.member k in
-    let lane = next_lane m (m.mine.term + 1) (Some k) m.mine.log in
-    pushed P w k lane (s m.mine lane (omega arith) (λ e. absurd (omega (arith, e))))
-each-after members P s w (Append k e) may =
-    let m = w.member k in
-    let lane = next_lane m m.mine.term m.mine.vote (add m.mine.log e) in
-    pushed P w k lane (s m.mine lane (omega arith) (λ e. inl refl))
-each-after members P s w (Notice k op) may =
+    pushed P w k (next_lane m m.mine.term m.mine.vote (add m.mine.log e)) adds
+each-moved members P w (Notice k op) may adds =
     let m = w.member k in
     let older = filter (λ l. nat_le op l.op) m.older in
     put-each (λ q x. Each P (w.member q) → Each P x) k (record { mine = m.mine; older = older; noticed = op }) w.member
@@ -94,17 +101,40 @@ each-after members P s w (Notice k op) may =
       | inl same ↦ each l (inl same)
       | inr before ↦ each l (inr (In-filter (λ x. nat_le op x.op) l m.older before).0)
     ]) (λ q other each. each)
-each-after members P s w (Restart k lane) may =
+each-moved members P w (Restart k lane) may adds =
     put-each (λ q x. Each P (w.member q) → Each P x) k (record { mine = lane; older = []; noticed = lane.op }) w.member
     (λ each l here. elim here [ inl same ↦ subst P (sym same) (each lane may) | inr before ↦ absurd before ])
     (λ q other each. each)
-each-after members P s w (Vote k ask) may = λ q each. each
-each-after members P s w (Lead k) may = λ q each. each
-each-after members P s w (Send k front done) may = λ q each. each
-each-after members P s w (Reply k sent) may = λ q each. each
-each-after members P s w (Learn k sent x) may = λ q each. each
-each-after members P s w (Commit k a e) may = λ q each. each
-each-after members P s w (Follow k) may = λ q each. each
+each-moved members P w (Vote k ask) may adds = λ q each. each
+each-moved members P w (Lead k) may adds = λ q each. each
+each-moved members P w (Send k front done) may adds = λ q each. each
+each-moved members P w (Reply k sent) may adds = λ q each. each
+each-moved members P w (Learn k sent x) may adds = λ q each. each
+each-moved members P w (Commit k a e) may adds = λ q each. each
+each-moved members P w (Follow k) may adds = λ q each. each
+
+adds-stay : (members : List ℕ) (P : Lane → Type 0) → Stays P → (w : World) (m : Move) → Allowed members w m → Adds P w m
+adds-stay members P s w (Write k term vote log) may =
+    s (w.member k).mine (next_lane (w.member k) term vote log) may.term_rises may.vote_stays
+adds-stay members P s w (Stand k) may =
+    let m = w.member k in
+    s m.mine (next_lane m (m.mine.term + 1) (Some k) m.mine.log) (omega arith) (λ e. absurd (omega (arith, e)))
+adds-stay members P s w (Append k e) may =
+    let m = w.member k in
+    s m.mine (next_lane m m.mine.term m.mine.vote (add m.mine.log e)) (omega arith) (λ e. inl refl)
+adds-stay members P s w (Notice k op) may = tt
+adds-stay members P s w (Restart k lane) may = tt
+adds-stay members P s w (Vote k ask) may = tt
+adds-stay members P s w (Lead k) may = tt
+adds-stay members P s w (Send k front done) may = tt
+adds-stay members P s w (Reply k sent) may = tt
+adds-stay members P s w (Learn k sent x) may = tt
+adds-stay members P s w (Commit k a e) may = tt
+adds-stay members P s w (Follow k) may = tt
+
+pub each-after : (members : List ℕ) (P : Lane → Type 0) → Stays P → (w : World) (m : Move) → Allowed members w m
+    → (q : ℕ) → Each P (w.member q) → Each P ((after w m).member q)
+each-after members P s w m may = each-moved members P w m may (adds-stay members P s w m may)
 
 -- ---- what was said since the start is of later terms than an election before it
 

@@ -1,4 +1,5 @@
 mod Above
+mod Alone
 mod Assumed
 mod Begin
 mod Commits

@@ -7,16 +7,16 @@ use Rattle.std.proofs.lemmas.Bool.{false≢true, and_parts, lt-ltb, ltb-false, l
 use Rattle.qq_base.specs.Fronts.{put}
 use Rattle.qq_base.proofs.Puts.{put-each, put-same, put-other}
 use Rattle.qq_entry.specs.declared.command.Entry.{Entry}
-use Rattle.qq_raft_protocol.specs.World.{Lane, Member, World, lanes, opened, start_world}
+use Rattle.qq_raft_protocol.specs.World.{Lane, Member, lanes, opened, start_world}
 use Rattle.qq_raft_protocol.specs.Facts.{In}
-use Rattle.qq_raft_protocol.specs.Moves.{Move, after, Allowed, run, AreAllowed}
-use Rattle.qq_raft_protocol.specs.Moves.Move.{Write, Stand, Vote, Lead, Append, Send, Reply, Learn, Commit, Notice, Restart, Follow}
+use Rattle.qq_raft_protocol.specs.Moves.{Move, Allowed, run, AreAllowed}
+use Rattle.qq_raft_protocol.specs.Moves.Move.{Restart}
 use Rattle.qq_raft_protocol.specs.Starts.{IsStart}
 use Rattle.qq_raft_protocol.proofs.Lists.{In-cases}
-use Rattle.qq_raft_away_laws.specs.Away.{assumed_lane, mover, read_lane, AreBelow, AreStill, AgreeBut}
+use Rattle.qq_raft_away_laws.specs.Away.{assumed_lane, read_lane, AreBelow, AreStill, AgreeBut}
 use Rattle.qq_raft_away_laws.specs.Rules.{Reading, has_change, is_used, is_used_at, is_away, is_new, latest_term, latest_of, term_above, opening_lane, opening, reopening, MayReturn, may_begin, first_lane}
 use Rattle.qq_raft_away_laws.proofs.Assumed.{read_cases, read_here, read_log, lanes-start}
-use Rattle.qq_raft_away_laws.proofs.Still.{still-allowed}
+use Rattle.qq_raft_away_laws.proofs.Still.{run-keeps, still-allowed}
 
 -- ---- tests of lists
 
@@ -210,29 +210,6 @@ pub reopen-allowed : (members : List ℕ) (away : ℕ → Bool) (lane : ℕ → 
 reopen-allowed members away lane k found moves is still may =
     still-allowed members away (opening members away lane) (reopening members away lane k found) [] moves
     (agrees-later members away lane k found is) still may
-
--- ---- who makes no move keeps its disk
-
-move-keeps : (w : World) (m : Move) (q : ℕ) → (q ≡ mover m → ⊥) → (after w m).member q ≡ w.member q
-move-keeps w (Write k term vote log) q other = put-other k _ w.member q other
-move-keeps w (Stand k) q other = put-other k _ w.member q other
-move-keeps w (Append k e) q other = put-other k _ w.member q other
-move-keeps w (Notice k op) q other = put-other k _ w.member q other
-move-keeps w (Restart k lane) q other = put-other k _ w.member q other
-move-keeps w (Vote k ask) q other = refl
-move-keeps w (Lead k) q other = refl
-move-keeps w (Send k front done) q other = refl
-move-keeps w (Reply k sent) q other = refl
-move-keeps w (Learn k sent x) q other = refl
-move-keeps w (Commit k a e) q other = refl
-move-keeps w (Follow k) q other = refl
-
-run-keeps : (away : ℕ → Bool) (moves : List Move) (w : World) (q : ℕ) → away q ≡ true → AreStill away moves
-    → (run w moves).member q ≡ w.member q
-run-keeps away [] w q is still = refl
-run-keeps away (m ∷ moves) w q is still =
-    run-keeps away moves (after w m) q is still.1
-    ∙ move-keeps w m q (λ same. false≢true (sym still.0 ∙ ap away (sym same) ∙ is))
 
 found-there : (members : List ℕ) (away : ℕ → Bool) (lane : ℕ → Lane) (k : ℕ) (found : Lane)
     → reopening members away lane k found k ≡ opened found

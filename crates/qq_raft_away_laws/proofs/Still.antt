@@ -3,7 +3,7 @@ use Rattle.std.proofs.Common.{◌≡◌, ◌⊎◌, ℕ, ◌+◌, ◌≤◌, ◌
 use Rattle.std.specs.Prelude.{filter, nat_le, nat_eq}
 use Rattle.std.proofs.lemmas.Bool.{cases_lt, false≢true, lt-ltb, le-ltb}
 use Rattle.qq_base.specs.Fronts.{IsFront, put}
-use Rattle.qq_base.proofs.Puts.{put-each}
+use Rattle.qq_base.proofs.Puts.{put-each, put-other}
 use Rattle.qq_entry.specs.declared.command.Entry.{Entry}
 use Rattle.qq_raft_protocol.specs.World.{Lane, Member, Role, Ask, Grant, Ack, Sent, World, lanes, start_world}
 use Rattle.qq_raft_protocol.specs.World.Role.{Follower, Candidate, Leader}
@@ -53,6 +53,14 @@ pub record Quiet (away : ℕ → Bool) (w : World) : Type 0 where
   pub grants : (x : Grant) → In x w.grants → away x.from ≡ false
   pub acks : (x : Ack) → In x w.acks → away x.from ≡ false
   pub roles : (q : ℕ) → away q ≡ true → w.role q ≡ Role.Follower
+
+pub quiet-start : (away : ℕ → Bool) (member : ℕ → Member) (audit : List Entry) → Quiet away (start_world member audit)
+quiet-start away member audit = record {
+  asks = λ x said. absurd said;
+  grants = λ x said. absurd said;
+  acks = λ x said. absurd said;
+  roles = λ q is. refl;
+}
 
 -- ---- what is allowed is allowed there
 
@@ -267,7 +275,7 @@ roles-put {away = away} {w = w} k role h here =
     put-each (λ q r. away q ≡ true → r ≡ Role.Follower) k role w.role
     (λ is. absurd (false≢true (sym here ∙ is))) (λ q other is. h.roles q is)
 
-quiet-after : {away : ℕ → Bool} {w : World} (m : Move) → Quiet away w → away (mover m) ≡ false
+pub quiet-after : {away : ℕ → Bool} {w : World} (m : Move) → Quiet away w → away (mover m) ≡ false
     → Quiet away (after w m)
 quiet-after (Write k term vote log) h here =
     record { asks = h.asks; grants = h.grants; acks = h.acks; roles = roles-put k Follower h here }
@@ -328,6 +336,29 @@ quiet-after (Learn k sent x) h here = record { asks = h.asks; grants = h.grants;
 quiet-after (Commit k a entry) h here = record { asks = h.asks; grants = h.grants; acks = h.acks; roles = h.roles }
 quiet-after (Notice k op) h here = record { asks = h.asks; grants = h.grants; acks = h.acks; roles = h.roles }
 
+-- ---- who makes no move keeps its disk
+
+move-keeps : (w : World) (m : Move) (q : ℕ) → (q ≡ mover m → ⊥) → (after w m).member q ≡ w.member q
+move-keeps w (Write k term vote log) q other = put-other k _ w.member q other
+move-keeps w (Stand k) q other = put-other k _ w.member q other
+move-keeps w (Append k e) q other = put-other k _ w.member q other
+move-keeps w (Notice k op) q other = put-other k _ w.member q other
+move-keeps w (Restart k lane) q other = put-other k _ w.member q other
+move-keeps w (Vote k ask) q other = refl
+move-keeps w (Lead k) q other = refl
+move-keeps w (Send k front done) q other = refl
+move-keeps w (Reply k sent) q other = refl
+move-keeps w (Learn k sent x) q other = refl
+move-keeps w (Commit k a e) q other = refl
+move-keeps w (Follow k) q other = refl
+
+pub run-keeps : (away : ℕ → Bool) (moves : List Move) (w : World) (q : ℕ) → away q ≡ true → AreStill away moves
+    → (run w moves).member q ≡ w.member q
+run-keeps away [] w q is still = refl
+run-keeps away (m ∷ moves) w q is still =
+    run-keeps away moves (after w m) q is still.1
+    ∙ move-keeps w m q (λ same. false≢true (sym still.0 ∙ ap away (sym same) ∙ is))
+
 -- ---- lists of moves
 
 pub record Follows (away : ℕ → Bool) (audit : List Entry) (w v : World) : Type 0 where
@@ -378,12 +409,7 @@ pub still-run : (members : List ℕ) (away : ℕ → Bool) (one two : ℕ → Me
     → Comes members away audit moves (start_world one []) (start_world two audit)
 still-run members away one two audit moves agree still may =
     follows-run members moves (start_world one []) (start_world two audit) (record {
-      quiet = record {
-        asks = λ x said. absurd said;
-        grants = λ x said. absurd said;
-        acks = λ x said. absurd said;
-        roles = λ q is. refl;
-      };
+      quiet = quiet-start away one [];
       differs = record {
         others = agree;
         rest = ap (λ (y : List Entry). start_world two y) (sym (longer_short audit [] (omega arith)));

@@ -1,6 +1,6 @@
 -- A member is away where its disk failed as its group began, or is new where the others' are old. Its lane wasn't read,
 -- so that a lane is assumed in its place, and it makes no move.
-use Rattle.std.specs.Prelude.{◌≡◌, ◌<◌, ℕ, Bool, true, false, List, [], ◌∷◌, None, if◌then◌else◌}
+use Rattle.std.specs.Prelude.{◌≡◌, ◌⊎◌, ◌<◌, ℕ, Bool, true, false, List, [], ◌∷◌, None, if◌then◌else◌}
 use Rattle.qq_base.specs.Fronts.{IsFront}
 use Rattle.qq_entry.specs.declared.command.Entry.{Entry}
 use Rattle.qq_raft_protocol.specs.World.{Lane, Member, World}
@@ -8,6 +8,7 @@ use Rattle.qq_raft_protocol.specs.World.Role.{Leader}
 use Rattle.qq_raft_protocol.specs.Facts.{add, In}
 use Rattle.qq_raft_protocol.specs.Moves.{Move, longer}
 use Rattle.qq_raft_protocol.specs.Moves.Move.{Write, Stand, Vote, Lead, Append, Send, Reply, Learn, Commit, Notice, Restart, Follow}
+use Rattle.qq_raft_protocol.specs.Safe.{IsLaneOf}
 use Rattle.qq_raft_protocol.specs.Starts.{IsStart}
 
 -- ---- what is assumed
@@ -73,3 +74,7 @@ pub record IsReady (w : World) (q : ℕ) (a : List Entry) (e : Entry) : Type 0 w
   pub leads : w.role q ≡ Leader
   pub own : e.term.0 ≡ (w.member q).mine.term
   pub done : IsFront (add a e) (w.done q)
+
+-- the lanes that a crash may leave of who is present, and any lane without an entry for who is away
+abbrev pub IsPresent : (ℕ → Bool) → World → ℕ → Lane → Type 0
+IsPresent away w q l = ((away q ≡ true) × (l.log ≡ [])) ⊎ ((away q ≡ false) × IsLaneOf w q l)

@@ -1,5 +1,5 @@
 //! The laws of a group some of whose members are away.
-ghost use Rattle.std.specs.Prelude.{◌≡◌, ◌<◌, Bool, List, [], ◌∷◌, ℕ};
+ghost use Rattle.std.specs.Prelude.{◌≡◌, ◌<◌, Bool, true, List, [], ◌∷◌, ℕ};
 ghost use Rattle.qq_base.specs.Fronts.{IsFront};
 ghost use Rattle.qq_entry.specs.declared.command.Entry.{Entry};
 ghost use Rattle.qq_raft_protocol.specs.Facts.{add, In};
@@ -9,7 +9,7 @@ ghost use Rattle.qq_raft_protocol.specs.Safe.{IsSupported};
 ghost use Rattle.qq_raft_protocol.specs.Starts.{IsStart};
 ghost use Rattle.qq_raft_protocol.specs.World.{Lane, Member, lanes, opened, start_world};
 ghost use Rattle.qq_raft_protocol.specs.World.Role.{Leader};
-ghost use Rattle.qq_raft_away_laws.specs.Away.{AgreeBut, AreBelow, AreStill, DiffersIn, IsBeside, IsReady, read_lane};
+ghost use Rattle.qq_raft_away_laws.specs.Away.{AgreeBut, AreBelow, AreStill, DiffersIn, IsBeside, IsPresent, IsReady, read_lane};
 
 /// A law: if any lanes of the members that are away make all logs support any audit, so do the lanes that are
 /// assumed in their place, with a later term than each entry that was read. So what is refused over assumed
@@ -77,4 +77,16 @@ pub fn who_was_away_may_begin()
         IsReady (run (start_world one []) first) i a e →
         AreAllowed members (run (start_world one []) first) second →
         IsFront audit (run (run (start_world one []) first) second).audit }
+{}
+
+/// A law: once a leader is ready, nobody needs who was away. The disks of the others support the audit by
+/// themselves, whatever lanes without an entry stand in for those, a new one's too. So a group that crashes then
+/// may begin again with such lanes.
+pub fn nobody_needs_who_was_away()
+    ensures { (members : List ℕ) (away : ℕ → Bool) (one : ℕ → Member) (moves : List Move) (i : ℕ)
+        (a : List Entry) (e : Entry) → IsStart members one [] →
+        ((q : ℕ) (l : Lane) → away q ≡ true → In l (lanes (one q)) → l.log ≡ []) →
+        AreStill away moves → AreAllowed members (start_world one []) moves →
+        IsReady (run (start_world one []) moves) i a e → IsSupported members
+        (IsPresent away (run (start_world one []) moves)) (run (start_world one []) moves).audit }
 {}

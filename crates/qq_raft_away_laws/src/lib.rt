@@ -8,7 +8,8 @@ mod worked;
 
 pub use laws::{
     a_leader_commits_after_the_audit, a_leader_is_above_what_was_read,
-    disks_that_stand_still_do_not_matter, what_was_not_read_may_be_assumed, who_was_away_may_begin,
+    disks_that_stand_still_do_not_matter, nobody_needs_who_was_away,
+    what_was_not_read_may_be_assumed, who_was_away_may_begin,
 };
 pub use rules::{
     a_failed_node_may_return, a_later_term_may_be_assumed, a_node_is_new_among_old_ones,
