@@ -1,0 +1,8 @@
+mod Above
+mod Alone
+mod Assumed
+mod Begin
+mod Commits
+mod Replaced
+mod Returns
+mod Still
