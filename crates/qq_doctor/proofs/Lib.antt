@@ -1,0 +1,3 @@
+mod Differing
+mod Pairs
+mod Reached
