@@ -2,8 +2,16 @@
 #![tactic(auto)]
 
 mod checking;
+mod doctor;
+mod found;
 mod lanes;
+mod reading;
+mod report;
 mod verdict;
+mod words;
 
 pub use checking::check;
+pub use doctor::run_doctor;
+pub use report::DIFFERS;
 pub use verdict::Verdict;
+pub use words::{Request, read_request};
