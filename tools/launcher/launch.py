@@ -14,6 +14,7 @@ OWN = {
     "help": "helping",
     "version": "helping",
     "check": "checking",
+    "doctor": "doctor",
     "queues": "queues",
     "picture": "picture",
     "storm": "storm",

@@ -10,6 +10,8 @@ use Rattle.qq_disk.specs.Disk.{now}
 use Rattle.qq_disk.specs.Facts.{DiskFacts}
 use Rattle.qq_log.specs.declared.lane.Lane.{Lane}
 use Rattle.qq_ports.specs.Yard.{IsOpened}
+use Rattle.qq_ports.specs.declared.yard_fault.YardFault.{YardFault}
+use Rattle.qq_ports.specs.declared.yard_fault.YardFault.TheVariants as yard_faults
 use Rattle.qq_route.specs.declared.queue_row.QueueRow.{QueueRow}
 use Rattle.qq_wal_chain.specs.Lanes.{Lanes}
 use Rattle.qq_recover.specs.Answer.{Fails}
@@ -69,6 +71,10 @@ AreRead is_given facts rows (k ∷ nodes) found =
 abbrev pub memory_ending : Memory → Ending
 memory_ending Want = no_memory
 memory_ending (Spent number) = spent number
+
+abbrev pub yard_ending : YardFault → Ending
+yard_ending yard_faults.Failed = yard_fault
+yard_ending (yard_faults.Memory memory) = no_memory
 
 abbrev pub refusal_of : (k : ℕ) → RecoverFault → Ending
 refusal_of k faults.Disk = yard_fault

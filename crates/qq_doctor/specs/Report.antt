@@ -1,5 +1,5 @@
 -- What the doctor prints, and how it ends.
-use Rattle.std.specs.Prelude.{◌≡◌, ◌⊎◌, ◌++◌, ℕ, Bool, true, false, List, [], ◌∷◌, length, codes, Option, Some, None, if◌then◌else◌}
+use Rattle.std.specs.Prelude.{◌≡◌, ◌⊎◌, ◌||◌, ◌++◌, ℕ, Bool, true, false, List, [], ◌∷◌, length, codes, Option, Some, None, if◌then◌else◌}
 use Rattle.std.specs.List.{list_any, range_with_len}
 use Rattle.std.specs.Fmt.{decimal}
 use Rattle.qq_base.specs.declared.ids.NodeId.{NodeId}
@@ -20,6 +20,7 @@ use Rattle.qq_doctor.specs.Sorted.{of_queue}
 use Rattle.qq_doctor.specs.Verdicts.{Means}
 use Rattle.qq_doctor.specs.declared.verdict.Verdict.{Verdict}
 use Rattle.qq_doctor.specs.declared.verdict.Verdict.TheVariants as verdicts
+use Rattle.qq_doctor.specs.declared.report.Report.{Report}
 use Rattle.qq_doctor.specs.declared.report.TheConstants.{DIFFERS}
 use Rattle.qq_doctor.specs.declared.words.Request.{Request}
 
@@ -56,7 +57,24 @@ is_difference (verdicts.Differ index a b) = true
 abbrev pub status_of : List Verdict → ℕ
 status_of said = if list_any is_difference said then DIFFERS else DONE
 
+-- Lines of these queues were added to a text, after which it is known whether two lanes of some queue differ.
+pub record AddsLines (rows : List QueueRow) (found : List Found) (old : Report) (new : Report) : Type 0 where
+  pub verdicts : List Verdict
+  pub said : AreSaid rows found verdicts
+  pub text : new.text.items ≡ old.text.items ++ report_text rows verdicts
+  pub differs : new.differs ≡ (old.differs || list_any is_difference verdicts)
+
 -- ---- how it ends
+
+-- Each node was read in order, and this is said of each queue.
+pub record IsReported {D : Type 0} (is_given : ℕ → D → Bool) (facts : DiskFacts D) (setup : Setup) (report : Report)
+    : Type 0 where
+  pub found : List Found
+  pub read : AreRead is_given facts setup.queues (range_with_len 1 setup.nodes) found
+  pub verdicts : List Verdict
+  pub said : AreSaid setup.queues found verdicts
+  pub text : report.text.items ≡ report_text setup.queues verdicts
+  pub differs : report.differs ≡ list_any is_difference verdicts
 
 -- the text was written whole, or the sink has failed in it
 abbrev pub HasWritten : (status : ℕ) → List QueueRow → List Verdict → (before later : SinkState) → Type 0
@@ -85,13 +103,18 @@ pub record OfSetup (options : Options) (shelf : ShelfState) (Holds : Setup → T
   pub is : IsSetupOver shelf.files options setup
   pub holds : Holds setup
 
--- why nothing is said: there was no memory, there is no such cluster, or the first node that wasn't read stopped it
+-- why nothing is said of a cluster: there was no memory, or the first node that wasn't read stopped it
+abbrev pub MayNotSay : {D : Type 0} → (ℕ → D → Bool) → DiskFacts D → Setup → (yard yard' : ℕ) → Ending → Type 0
+MayNotSay is_given facts setup yard yard' ending =
+    (ending ≡ no_memory) ⊎ StopsAtFirst is_given facts setup.queues setup.nodes yard yard' ending
+
+-- or there is no such cluster
 abbrev pub MayStop : {D : Type 0} → (ℕ → D → Bool) → DiskFacts D → Options → (shelf shelf' : ShelfState)
     → (yard yard' : ℕ) → Ending → Type 0
 MayStop is_given facts options shelf shelf' yard yard' ending =
     (ending ≡ no_memory)
     ⊎ (MayNotBegin shelf shelf' options ending
-    ⊎ OfSetup options shelf (λ setup. StopsAtFirst is_given facts setup.queues setup.nodes yard yard' ending))
+    ⊎ OfSetup options shelf (λ setup. MayNotSay is_given facts setup yard yard' ending))
 
 abbrev pub usage : Ending
 usage = record { status = USAGE; text = codes "usage: doctor\n" }

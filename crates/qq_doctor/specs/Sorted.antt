@@ -1,5 +1,5 @@
 -- What was found of each queue.
-use Rattle.std.specs.Prelude.{◌≡◌, ◌+◌, ℕ, Bool, List, Some, filter, length, nat_eq, slice_get}
+use Rattle.std.specs.Prelude.{◌≡◌, ◌+◌, ◌<◌, ℕ, Bool, List, [], filter, get_or, length, nat_eq}
 use Rattle.qq_log.specs.declared.lane.Lane.{Lane}
 use Rattle.qq_doctor.specs.Lanes.{Found}
 
@@ -16,4 +16,4 @@ of_node k lane = (record { 0 = k }, lane)
 -- As it is kept: each row has the lanes of its queue, and the first is that of queue 1.
 pub record AreSorted (count : ℕ) (found : List Found) (rows : List (List Found)) : Type 0 where
   pub count_is : length rows ≡ count
-  pub each : (at : ℕ) (row : List Found) → slice_get rows at ≡ Some row → row ≡ of_queue (at + 1) found
+  pub each : (at : ℕ) → at < count → get_or rows at [] ≡ of_queue (at + 1) found

@@ -1,8 +1,10 @@
 //! The doctor, from its words to a status.
-ghost use Rattle.std.specs.Prelude.{◌≡◌, ◌⊎◌, ◌≤◌, ◌×◌, map, string_bytes, IfErr, IfOk, Some};
+ghost use Rattle.std.specs.Prelude.{◌≤◌, map, string_bytes, IfErr, IfOk, Some};
 ghost use Rattle.qq_ports.specs.Streams.{Writes, shelf_state, sink_state};
 ghost use Rattle.qq_cluster_run.specs.Runs.{Closes};
-ghost use Rattle.qq_doctor.specs.Report.{DoctorEnds, usage};
+ghost use Rattle.qq_defs.specs.Runnable.{IsRunnable};
+ghost use Rattle.qq_route.specs.Setup.{state_of};
+ghost use Rattle.qq_doctor.specs.Report.{DoctorEnds, IsReported, MayNotSay, MayStop, OfSetup, usage};
 ghost use Rattle.qq_doctor.specs.Words.{read_request};
 
 use crate::found::Found;
@@ -12,6 +14,7 @@ use crate::words::{Request, read_request};
 use qq_cluster_run::status::{USAGE, WRITE_FAULT};
 use qq_cluster_run::{Ending, set_up};
 use qq_ports::{Shelf, Sink, Yard, write_all};
+use qq_route::Setup;
 use std::alloc::Global;
 
 // Writes the closing line, and says with which status the run ends.
@@ -41,25 +44,53 @@ fn close_usage<O: Sink>(output: &mut O) -> u8
 }
 
 // What is said of a cluster's queues, or why nothing is.
+fn examine_nodes<Y: Yard>(
+    alloc: Global,
+    setup: &Setup,
+    root: &str,
+    yard: &mut Y,
+) -> Result<Report, Ending>
+    requires { IsRunnable (state_of setup.now) }
+    ensures ok { IfOk result (IsReported (Y.is_given (Some root.now)) Y.Disk.facts setup.now) }
+    ensures cause { IfErr result (MayNotSay (Y.is_given (Some root.now)) Y.Disk.facts setup.now
+        (Y.faults yard.old) (Y.faults yard.new)) }
+    ensures later { Y.faults yard.old ≤ Y.faults yard.new }
+{
+    let mut found = match Found::new(alloc, setup.queues.len()) {
+        Ok(found) => found,
+        Err(_) => return Err(Ending::no_memory()),
+    };
+    if let Err(ending) = read_nodes(alloc, setup, root, yard, &mut found) {
+        return Err(ending);
+    }
+    let mut report = Report::new(alloc);
+    match report.add_all(setup, &found) {
+        Ok(()) => Ok(report),
+        Err(_) => Err(Ending::no_memory()),
+    }
+}
+
+// The same of the cluster that the words name.
 fn examine<S: Shelf, Y: Yard>(
     alloc: Global,
     request: &Request,
     shelf: &mut S,
     yard: &mut Y,
 ) -> Result<Report, Ending>
+    ensures ok { IfOk result (λ report. OfSetup request.now.options
+        (shelf_state S.files S.faults shelf.old)
+        (λ setup. IsReported (Y.is_given (Some request.now.root)) Y.Disk.facts setup report)) }
+    ensures cause { IfErr result (MayStop (Y.is_given (Some request.now.root)) Y.Disk.facts
+        request.now.options (shelf_state S.files S.faults shelf.old)
+        (shelf_state S.files S.faults shelf.new) (Y.faults yard.old) (Y.faults yard.new)) }
+    ensures shelf_later { S.faults shelf.old ≤ S.faults shelf.new }
+    ensures yard_later { Y.faults yard.old ≤ Y.faults yard.new }
 {
-    let setup = set_up(alloc, &request.options, shelf)?;
-    let rows = setup.queues.as_slice();
-    let mut found = match Found::new(alloc, rows.len()) {
-        Ok(found) => found,
-        Err(_) => return Err(Ending::no_memory()),
+    let setup = match set_up(alloc, &request.options, shelf) {
+        Ok(setup) => setup,
+        Err(ending) => return Err(ending),
     };
-    read_nodes(alloc, &setup, request.root.as_str(), yard, &mut found)?;
-    let mut report = Report::new(alloc);
-    match report.add_all(rows, &found) {
-        Ok(()) => Ok(report),
-        Err(_) => Err(Ending::no_memory()),
-    }
+    examine_nodes(alloc, &setup, request.root.as_str(), yard)
 }
 
 // Writes what is said of a cluster's queues.

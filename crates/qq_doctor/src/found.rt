@@ -1,5 +1,5 @@
 //! The lanes that were found, queue by queue.
-ghost use Rattle.std.specs.Prelude.{◌≡◌, ◌++◌, ◌∷◌, [], ℕ, List, length, map, IfOk, IsOkUnless, OnErr, OnOk, get_or};
+ghost use Rattle.std.specs.Prelude.{◌≡◌, ◌<◌, ◌++◌, ◌∷◌, [], ℕ, List, length, map, get_or, IfOk, IsOkUnless, OnOk};
 ghost use Rattle.qq_doctor.specs.Lanes.{Found as FoundLane};
 ghost use Rattle.qq_doctor.specs.Sorted.{AreSorted, of_node};
 
@@ -64,7 +64,7 @@ impl Found {
     /// What was found of the queue that has so many before it.
     pub fn of_place(&self, at: usize) -> &[(NodeId, Lane)]
         requires { at < length self.now.rows.items }
-        ensures { result.now ≡ get_or self.now.rows.items at result.now }
+        ensures { get_or self.now.rows.items at [] ≡ result.now }
     {
         self.rows[at].as_slice()
     }

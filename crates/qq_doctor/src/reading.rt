@@ -1,9 +1,9 @@
 //! The nodes' disks are read, one after the other.
-ghost use Rattle.std.specs.Prelude.{◌≡◌, ◌≤◌, ◌++◌, ◌×◌, ℕ, List, Some, map, IfErr, IfOk, IsOkUnless, OnOk};
+ghost use Rattle.std.specs.Prelude.{◌≡◌, ◌≤◌, ◌++◌, ℕ, List, Some, map, IfErr, IfOk, IsOkUnless, OnOk};
 ghost use Rattle.std.specs.List.{range_with_len};
 ghost use Rattle.qq_log.specs.declared.lane.Lane.{Lane as LaneOf};
 ghost use Rattle.qq_doctor.specs.Lanes.{Found as FoundLane};
-ghost use Rattle.qq_doctor.specs.Reading.{AreRead, IsRead, MayNotRead, StopsAtFirst, is_member, memory_ending, queues_on, refusal_of};
+ghost use Rattle.qq_doctor.specs.Reading.{AreRead, IsRead, MayNotRead, StopsAtFirst, is_member, memory_ending, queues_on, refusal_of, yard_ending};
 ghost use Rattle.qq_doctor.specs.Sorted.{AreSorted, of_node};
 
 use crate::found::Found;
@@ -44,7 +44,9 @@ fn memory_ending(memory: Memory) -> Ending
     }
 }
 
-fn yard_ending(fault: YardFault) -> Ending {
+fn yard_ending(fault: YardFault) -> Ending
+    ensures { result ≡ yard_ending fault }
+{
     match fault {
         YardFault::Failed => Ending::yard_fault(),
         YardFault::Memory(_) => Ending::no_memory(),

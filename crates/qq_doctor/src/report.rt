@@ -1,10 +1,11 @@
 //! What is said of each queue, as text.
-ghost use Rattle.std.specs.Prelude.{◌≡◌, ◌≤◌, ◌<◌, ◌++◌, ◌×◌, ◌^◌, ℕ, List, length, IfOk, IsOkUnless, OnOk};
+ghost use Rattle.std.specs.Prelude.{◌≡◌, ◌||◌, ◌++◌, [], ℕ, List, false, length, IsOkUnless, OnOk};
 ghost use Rattle.std.specs.List.{list_any};
-ghost use Rattle.qq_defs.specs.Runnable.{AreQueuesAfter};
+ghost use Rattle.qq_defs.specs.Runnable.{IsRunnable};
+ghost use Rattle.qq_route.specs.Setup.{state_of};
 ghost use Rattle.qq_doctor.specs.Lanes.{Found as FoundLane};
 ghost use Rattle.qq_doctor.specs.Sorted.{AreSorted};
-ghost use Rattle.qq_doctor.specs.Report.{AreSaid, is_difference, report_text, side_text, status_of, verdict_text};
+ghost use Rattle.qq_doctor.specs.Report.{AddsLines, is_difference, side_text, status_of, verdict_text};
 ghost use Rattle.qq_doctor.specs.declared.verdict.Verdict.{Verdict as VerdictOf};
 
 use crate::checking::check;
@@ -12,7 +13,7 @@ use crate::found::Found;
 use crate::verdict::Verdict;
 use qq_base::{Memory, NodeId, Term};
 use qq_cluster_run::status::DONE;
-use qq_route::QueueRow;
+use qq_route::Setup;
 use qq_script::{push_number, push_text};
 use std::alloc::Global;
 
@@ -77,7 +78,8 @@ impl Report {
     fn add(&mut self, name: &str, verdict: &Verdict) -> Result<(), Memory>
         ensures text { OnOk result (self.new.text.items
             ≡ self.old.text.items ++ verdict_text name.now verdict.now) }
-        ensures differs { OnOk result (self.new.differs ≡ self.old.differs || is_difference verdict.now) }
+        ensures differs { OnOk result (self.new.differs
+            ≡ (self.old.differs || is_difference verdict.now)) }
         ensures want { IsOkUnless result Memory.Want }
     {
         push_verdict(&mut self.text, name, verdict)?;
@@ -87,8 +89,16 @@ impl Report {
         Ok(())
     }
 
-    /// Adds the lines of these queues, of which these lanes were found.
-    pub fn add_all(&mut self, rows: &[QueueRow], found: &Found) -> Result<(), Memory> {
+    /// Adds the lines of a cluster's queues, of which these lanes were found.
+    pub fn add_all(&mut self, setup: &Setup, found: &Found) -> Result<(), Memory>
+        requires runs { IsRunnable (state_of setup.now) }
+        requires count { length found.now.rows.items ≡ length setup.now.queues }
+        ensures ok { OnOk result ((count : ℕ) (lanes : List FoundLane) →
+            AreSorted count lanes found.now.rows.items →
+            AddsLines setup.now.queues lanes self.old self.new) }
+        ensures want { IsOkUnless result Memory.Want }
+    {
+        let rows = setup.queues.as_slice();
         'rows: for at in 0..rows.len() {
             let row = &rows[at];
             let verdict = check(row.members.len() as u8, found.of_place(at));
