@@ -25,13 +25,13 @@ read-more : {D : Type 0} (is_given : ℕ → D → Bool) (facts : DiskFacts D) (
     → IsRead is_given facts rows k lanes
     → AreRead is_given facts rows (nodes ++ k ∷ []) (found ++ map (of_node k) lanes)
 read-more is_given facts rows [] found k lanes none one =
-    (lanes, [], ap (λ (l : List Found). l ++ map (of_node k) lanes) none ∙ sym (append-nil (map (of_node k) lanes)), one,
-    refl)
-read-more is_given facts rows (j ∷ nodes) found k lanes (own, rest, parts, first, more) one =
-    (own, rest ++ map (of_node k) lanes,
+    (lanes, ([], ap (λ (l : List Found). l ++ map (of_node k) lanes) none ∙ sym (append-nil (map (of_node k) lanes)),
+    one, refl))
+read-more is_given facts rows (j ∷ nodes) found k lanes (own, (rest, parts, first, more)) one =
+    (own, (rest ++ map (of_node k) lanes,
     ap (λ (l : List Found). l ++ map (of_node k) lanes) parts
     ∙ append_assoc (map (of_node j) own) rest (map (of_node k) lanes), first,
-    read-more is_given facts rows nodes rest k lanes more one)
+    read-more is_given facts rows nodes rest k lanes more one))
 
 -- so many nodes were read, and their lanes were added
 pub record Reading {D : Type 0} (is_given : ℕ → D → Bool) (facts : DiskFacts D) (rows : List QueueRow) (before : ℕ)
@@ -66,23 +66,42 @@ reading-more is_given facts rows before old now next so (lanes, one, adds) = rec
       (adds count (more ++ so.found) (so.sorted count more sorted));
 }
 
+-- the same where the rows are a slice of these
+pub reading-next : {D : Type 0} (is_given : ℕ → D → Bool) (facts : DiskFacts D) (rows shown : List QueueRow)
+    (before : ℕ) (old now next : List (List Found)) → shown ≡ rows → Reading is_given facts rows before old now
+    → (lanes : List Lane) × IsRead is_given facts shown (before + 1) lanes
+    × ((count : ℕ) (more : List Found) → AreSorted count more now
+    → AreSorted count (more ++ map (of_node (before + 1)) lanes) next)
+    → Reading is_given facts rows (before + 1) old next
+reading-next is_given facts rows shown before old now next same so (lanes, one, adds) =
+    reading-more is_given facts rows before old now next so
+    (lanes, subst (λ (r : List QueueRow). IsRead is_given facts r (before + 1) lanes) same one, adds)
+
+-- all of them
+pub reading-end : {D : Type 0} (is_given : ℕ → D → Bool) (facts : DiskFacts D) (rows : List QueueRow)
+    (before nodes : ℕ) (old now : List (List Found)) → before ≡ nodes → Reading is_given facts rows before old now
+    → (lanes : List Found) × AreRead is_given facts rows (range_with_len 1 nodes) lanes
+    × ((count : ℕ) (more : List Found) → AreSorted count more old → AreSorted count (more ++ lanes) now)
+reading-end is_given facts rows before nodes old now e so =
+    (so.found, subst (λ (n : ℕ). AreRead is_given facts rows (range_with_len 1 n) so.found) e so.read, so.sorted)
+
 -- ---- the first that isn't read
 
 rose-wider : (first before after : ℕ) → first ≤ before → Rose before after → Rose first after
 rose-wider first before after le (inl lt) = inl (omega (arith, le, lt))
 rose-wider first before after le (inr end) = inr end
 
-pub stops : {D : Type 0} (is_given : ℕ → D → Bool) (facts : DiskFacts D) (rows : List QueueRow) (nodes before : ℕ)
-    (old now : List (List Found)) (first yard yard' : ℕ) (ending : Ending) → before < nodes
-    → Reading is_given facts rows before old now → first ≤ yard
-    → MayNotRead is_given facts rows (before + 1) yard yard' ending
+pub stops : {D : Type 0} (is_given : ℕ → D → Bool) (facts : DiskFacts D) (rows shown : List QueueRow)
+    (nodes before : ℕ) (old now : List (List Found)) (first yard yard' : ℕ) (ending : Ending) → shown ≡ rows
+    → before < nodes → Reading is_given facts rows before old now → first ≤ yard
+    → MayNotRead is_given facts shown (before + 1) yard yard' ending
     → StopsAtFirst is_given facts rows nodes first yard' ending
-stops is_given facts rows nodes before old now first yard yard' ending within so le why = record {
+stops is_given facts rows shown nodes before old now first yard yard' ending same within so le why = record {
   before = before;
   within = within;
   found = so.found;
   read = so.read;
-  why = by why;
+  why = by (subst (λ (r : List QueueRow). MayNotRead is_given facts r (before + 1) yard yard' ending) same why);
 }
   where
     by : MayNotRead is_given facts rows (before + 1) yard yard' ending

@@ -5,6 +5,7 @@ mod checking;
 mod doctor;
 mod found;
 mod lanes;
+mod laws;
 mod reading;
 mod report;
 mod verdict;
@@ -12,6 +13,7 @@ mod words;
 
 pub use checking::check;
 pub use doctor::run_doctor;
+pub use laws::{other_requests_are_refused, requests_are_read, verdicts_are_printed};
 pub use report::DIFFERS;
 pub use verdict::Verdict;
 pub use words::{Request, read_request};

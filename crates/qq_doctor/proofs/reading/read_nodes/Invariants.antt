@@ -8,6 +8,6 @@ invariant-nodes g l =
     let yard = g.Y.Yard in
     record {
       later : yard.faults l.fn.yard ≤ yard.faults l.yard;
-      reading : Reading (yard.is_given (Some l.fn.root)) yard.Disk.NodeDisk.facts l.fn.setup.queues l.before
+      reading : Reading (yard.is_given (Some l.fn.root)) g.Y.Disk.NodeDisk.facts l.fn.setup.queues l.before
           l.fn.found.rows.items l.found.rows.items;
     }
