@@ -46,15 +46,19 @@ by-term place a b s t empty has_s has_t = (there, back)
   where
     apart : Decides (not (nat_eq s.0 t.0)) (s.0 ≢ t.0)
     apart = Decides-not (nat_eq s.0 t.0) (Decides-eqb s.0 t.0)
+
     at : (entry_at place a ≡ None) ⊎ (entry_at place b ≡ None) → (place ≡ base a) ⊎ (place ≡ base b)
     at (inl none) = inl (at-base place a s none has_s)
     at (inr none) = inr (at-base place b t none has_t)
+
     there : not (nat_eq s.0 t.0) ≡ true → Differ place a b
     there is = Differ.ByTerm s t (at empty) has_s has_t (λ e. apart.0 is (ap (λ x. x.0) e))
+
     no : (e f : Entry) → (entry_at place a ≡ None) ⊎ (entry_at place b ≡ None) → entry_at place a ≡ Some e
         → entry_at place b ≡ Some f → ⊥
     no e f (inl none) is_e is_f = some-none e _ none is_e
     no e f (inr none) is_e is_f = some-none f _ none is_f
+
     back : Differ place a b → not (nat_eq s.0 t.0) ≡ true
     back (Differ.ByEntry e f is_e is_f other) = absurd (no e f empty is_e is_f)
     back (Differ.ByTerm u v _ is_u is_v other) =
@@ -68,11 +72,14 @@ by-entry place a b e f same is_e is_f decides = (there, back)
   where
     apart : Decides (not same) (e ≢ f)
     apart = Decides-not same decides
+
     there : not same ≡ true → Differ place a b
     there is = Differ.ByEntry e f is_e is_f (apart.0 is)
+
     no : (place ≡ base a) ⊎ (place ≡ base b) → ⊥
     no (inl here) = some-none e _ (base-empty place a here) is_e
     no (inr here) = some-none f _ (base-empty place b here) is_f
+
     back : Differ place a b → not same ≡ true
     back (Differ.ByEntry u v is_u is_v other) =
         apart.1 (λ is. other (some-one u e _ is_u is_e ∙ is ∙ sym (some-one v f _ is_v is_f)))

@@ -1,5 +1,5 @@
 -- Nodes are read one after the other.
-use Rattle.std.proofs.Common.{◌≡◌, ◌⊎◌, ◌∙◌, ◌+◌, ◌^◌, ◌-◌, ◌<◌, ◌≤◌, ℕ, Bool, List, [], ◌∷◌, ◌++◌, ap, append_assoc, arith, inl, inr, map, refl, subst, sym}
+use Rattle.std.proofs.Common.{◌≡◌, ◌∙◌, ◌+◌, ◌<◌, ◌≤◌, ℕ, Bool, List, [], ◌∷◌, ◌++◌, ap, append_assoc, arith, inl, inr, map, refl, subst, sym}
 use Rattle.std.specs.List.{range_with_len}
 use Rattle.std.proofs.lemmas.List.{append-nil, map-id}
 use Rattle.std.proofs.lemmas.List.FromFn.{map-range_with_len_more}
@@ -24,14 +24,25 @@ read-more : {D : Type 0} (is_given : ℕ → D → Bool) (facts : DiskFacts D) (
     (found : List Found) (k : ℕ) (lanes : List Lane) → AreRead is_given facts rows nodes found
     → IsRead is_given facts rows k lanes
     → AreRead is_given facts rows (nodes ++ k ∷ []) (found ++ map (of_node k) lanes)
-read-more is_given facts rows [] found k lanes none one =
-    (lanes, ([], ap (λ (l : List Found). l ++ map (of_node k) lanes) none ∙ sym (append-nil (map (of_node k) lanes)),
-    one, refl))
-read-more is_given facts rows (j ∷ nodes) found k lanes (own, (rest, parts, first, more)) one =
-    (own, (rest ++ map (of_node k) lanes,
+read-more is_given facts rows [] found k lanes none one = (
+  lanes,
+  (
+    [],
+    ap (λ (l : List Found). l ++ map (of_node k) lanes) none ∙ sym (append-nil (map (of_node k) lanes)),
+    one,
+    refl,
+  ),
+)
+read-more is_given facts rows (j ∷ nodes) found k lanes (own, (rest, parts, first, more)) one = (
+  own,
+  (
+    rest ++ map (of_node k) lanes,
     ap (λ (l : List Found). l ++ map (of_node k) lanes) parts
-    ∙ append_assoc (map (of_node j) own) rest (map (of_node k) lanes), first,
-    read-more is_given facts rows nodes rest k lanes more one))
+        ∙ append_assoc (map (of_node j) own) rest (map (of_node k) lanes),
+    first,
+    read-more is_given facts rows nodes rest k lanes more one,
+  ),
+)
 
 -- so many nodes were read, and their lanes were added
 pub record Reading {D : Type 0} (is_given : ℕ → D → Bool) (facts : DiskFacts D) (rows : List QueueRow) (before : ℕ)

@@ -1,6 +1,6 @@
 -- Which places count.
-use Rattle.std.proofs.Common.{◌≡◌, ◌⊎◌, ◌+◌, ◌*◌, ◌^◌, ◌-◌, ◌<◌, ◌≤◌, ℕ, Bool, true, false, List, [], ◌∷◌, length, ap, arith, cond, inl, inr, refl, subst, sym}
-use Rattle.std.specs.Prelude.{filter, min, nat_le}
+use Rattle.std.proofs.Common.{◌≡◌, ◌⊎◌, ◌+◌, ◌^◌, ◌-◌, ◌<◌, ◌≤◌, ℕ, Bool, true, false, List, [], ◌∷◌, length, ap, arith, cond, inl, inr, refl, subst, sym}
+use Rattle.std.specs.Prelude.{filter}
 use Rattle.std.proofs.Math.Nat.{eq-or-lt_of_le}
 use Rattle.std.proofs.lemmas.Bool.{false≢true, le-leb, leb-true}
 use Rattle.qq_doctor.specs.Lanes.{Counts, Found, last, reaches}

@@ -1,8 +1,9 @@
 -- What is said of queues, one after the other.
-use Rattle.std.proofs.Common.{◌≡◌, ◌∙◌, ◌+◌, ◌<◌, ◌≤◌, ℕ, zero, suc, Bool, true, false, List, [], ◌∷◌, ◌++◌, ap, append_assoc, arith, length, map, refl, subst, sym, Some, take, drop}
+use Rattle.std.proofs.Common.{◌≡◌, ◌∙◌, ◌+◌, ◌<◌, ◌≤◌, ℕ, zero, suc, Bool, true, false, List, [], ◌∷◌, ◌++◌, ap, append_assoc, arith, length, refl, subst, sym, Some, take}
 use Rattle.std.specs.Prelude.{◌||◌, get_or, min, slice_get}
 use Rattle.std.specs.List.{list_any, range_with_len}
-use Rattle.std.proofs.lemmas.List.{append-nil, length-map, take_more}
+use Rattle.std.proofs.lemmas.List.{append-nil, length-map, take_all, take_more}
+use Rattle.std.proofs.lemmas.Option.{slice_get_read}
 use Rattle.std.proofs.lemmas.List.Folds.{list_any-append}
 use Rattle.std.proofs.lemmas.List.FromFn.{length-range_with_len}
 use Rattle.qq_defs.specs.Runnable.{AreQueuesAfter, IsQueueAfter, IsRunnable}
@@ -11,7 +12,7 @@ use Rattle.qq_route.specs.Setup.{SetupState}
 use Rattle.qq_route.specs.declared.queue_row.QueueRow.{QueueRow}
 use Rattle.qq_cluster_run.specs.Setup.{place_of}
 use Rattle.qq_doctor.specs.Lanes.{Found}
-use Rattle.qq_doctor.specs.Report.{AddsLines, AreSaid, is_difference, report_text, verdict_text}
+use Rattle.qq_doctor.specs.Report.{AddsLines, AreSaid, Says, is_difference, report_text, verdict_text}
 use Rattle.qq_doctor.specs.Sorted.{of_queue}
 use Rattle.qq_doctor.specs.Verdicts.{Means}
 use Rattle.qq_doctor.specs.declared.report.Report.{Report}
@@ -121,3 +122,34 @@ adds-next rows found at row verdict old now next within is so one text differs =
     subst (λ (l : List QueueRow). AddsLines l found old next)
     (ap (λ (r : QueueRow). take at rows ++ r ∷ []) is ∙ sym (take_more rows at row within))
     (adds-more (take at rows) found row verdict old now next so one text differs)
+
+-- ---- in a loop over a setup's queues
+
+pub row-there : (rows shown : List QueueRow) (at : ℕ) (row : QueueRow) → shown ≡ rows → at < length shown
+    → row ≡ get_or shown at row → slice_get rows at ≡ Some row
+row-there rows shown at row same within is =
+    subst (λ (l : List QueueRow). slice_get l at ≡ Some row) same (slice_get_read shown (length shown) at row refl within is)
+
+pub means-of : (lanes : List Found) (row : QueueRow) (at n : ℕ) (slice kept : List Found) (verdict : Verdict)
+    → n ≡ length row.members → kept ≡ slice → kept ≡ of_queue (at + 1) lanes → place_of row ≡ at + 1
+    → Means n slice verdict → Means (length row.members) (of_queue (place_of row) lanes) verdict
+means-of lanes row at n slice kept verdict count shown sorted place means =
+    subst (λ (m : ℕ). Means m (of_queue (place_of row) lanes) verdict) count
+    (subst (λ (l : List Found). Means n l verdict)
+    (sym shown ∙ sorted ∙ ap (λ (q : ℕ). of_queue q lanes) (sym place)) means)
+
+pub adds-all : (rows shown : List QueueRow) (found : List Found) (at : ℕ) (old now : Report) → shown ≡ rows
+    → length shown ≤ at → AddsLines (take at rows) found old now → AddsLines rows found old now
+adds-all rows shown found at old now same end so =
+    let past : length rows ≤ at = omega (arith, end, ap length same) in
+    subst (λ (l : List QueueRow). AddsLines l found old now) (take_all at rows past) so
+
+-- what is said, where nothing was said before
+pub says-all : (rows : List QueueRow) (found : List Found) (old now : Report) → old.text.items ≡ []
+    → old.differs ≡ false → AddsLines rows found old now → Says rows found now
+says-all rows found old now empty agrees so = record {
+  verdicts = so.verdicts;
+  said = so.said;
+  text = so.text ∙ ap (λ (l : List ℕ). l ++ report_text rows so.verdicts) empty;
+  differs = so.differs ∙ ap (λ (b : Bool). b || list_any is_difference so.verdicts) agrees;
+}

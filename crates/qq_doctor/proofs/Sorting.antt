@@ -1,7 +1,7 @@
 -- What was found is kept queue by queue.
 use Rattle.std.proofs.Common.{◌≡◌, ◌≢◌, ◌⊎◌, ◌∙◌, ◌+◌, ◌<◌, ◌≤◌, ℕ, Bool, true, false, List, [], ◌∷◌, ◌++◌, ap, append_assoc, arith, cond, get_or, inl, inr, length, length-append, map, refl, subst, sym}
 use Rattle.std.specs.Bool.{Decides}
-use Rattle.std.specs.Prelude.{filter, nat_eq}
+use Rattle.std.specs.Prelude.{nat_eq}
 use Rattle.std.proofs.Math.ListN.{set}
 use Rattle.std.proofs.Math.Nat.{eq-or-lt_of_le}
 use Rattle.std.proofs.Math.Seq.{get_or-append_seam}
@@ -28,6 +28,7 @@ sorted-next n rows so = record {
         get_or_append_left rows ([] ∷ []) [] at (omega (arith, lt, so.count_is)) ∙ so.each at lt
     by at (inl e) =
         ap (λ (i : ℕ). get_or (rows ++ [] ∷ []) i []) (e ∙ sym so.count_is) ∙ get_or-append_seam rows [] [] []
+
     each : (at : ℕ) → at < n + 1 → get_or (rows ++ [] ∷ []) at [] ≡ []
     each at lt =
         let le : at ≤ n = omega (arith, lt) in
@@ -81,6 +82,7 @@ sorted-add count found rows x i row number within is so = record {
         get_or-set_same rows i row [] within ∙ is
         ∙ ap (λ (l : List Found). l ++ x ∷ []) (so.each i (omega (arith, within, so.count_is)))
         ∙ sym (more-own (i + 1) x found number)
+
     by : (at : ℕ) → at < count → (b : Bool) → Decides b (at ≡ i)
         → get_or (set rows i row) at [] ≡ of_queue (at + 1) (found ++ x ∷ [])
     by at lt true decides =

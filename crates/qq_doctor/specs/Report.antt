@@ -66,15 +66,19 @@ pub record AddsLines (rows : List QueueRow) (found : List Found) (old : Report) 
 
 -- ---- how it ends
 
--- Each node was read in order, and this is said of each queue.
+-- a report says of each queue what its lanes give
+pub record Says (rows : List QueueRow) (found : List Found) (report : Report) : Type 0 where
+  pub verdicts : List Verdict
+  pub said : AreSaid rows found verdicts
+  pub text : report.text.items ≡ report_text rows verdicts
+  pub differs : report.differs ≡ list_any is_difference verdicts
+
+-- Each node was read in order, and this is said of what they gave.
 pub record IsReported {D : Type 0} (is_given : ℕ → D → Bool) (facts : DiskFacts D) (setup : Setup) (report : Report)
     : Type 0 where
   pub found : List Found
   pub read : AreRead is_given facts setup.queues (range_with_len 1 setup.nodes) found
-  pub verdicts : List Verdict
-  pub said : AreSaid setup.queues found verdicts
-  pub text : report.text.items ≡ report_text setup.queues verdicts
-  pub differs : report.differs ≡ list_any is_difference verdicts
+  pub says : Says setup.queues found report
 
 -- the text was written whole, or the sink has failed in it
 abbrev pub HasWritten : (status : ℕ) → List QueueRow → List Verdict → (before later : SinkState) → Type 0

@@ -1,10 +1,13 @@
 //! The doctor, from its words to a status.
-ghost use Rattle.std.specs.Prelude.{◌≤◌, map, string_bytes, IfErr, IfOk, Some};
+ghost use Rattle.std.specs.Prelude.{◌≡◌, ◌≤◌, ℕ, List, length, map, string_bytes, IfErr, IfOk, Some};
 ghost use Rattle.qq_ports.specs.Streams.{Writes, shelf_state, sink_state};
+ghost use Rattle.qq_cluster_run.specs.Endings.{no_memory};
 ghost use Rattle.qq_cluster_run.specs.Runs.{Closes};
 ghost use Rattle.qq_defs.specs.Runnable.{IsRunnable};
 ghost use Rattle.qq_route.specs.Setup.{state_of};
-ghost use Rattle.qq_doctor.specs.Report.{DoctorEnds, IsReported, MayNotSay, MayStop, OfSetup, usage};
+ghost use Rattle.qq_doctor.specs.Lanes.{Found as FoundLane};
+ghost use Rattle.qq_doctor.specs.Report.{DoctorEnds, IsReported, MayNotSay, MayStop, OfSetup, Says, usage};
+ghost use Rattle.qq_doctor.specs.Sorted.{AreSorted};
 ghost use Rattle.qq_doctor.specs.Words.{read_request};
 
 use crate::found::Found;
@@ -21,7 +24,8 @@ use std::alloc::Global;
 fn close<O: Sink>(output: &mut O, ending: Ending) -> u8
     ensures closes { Closes result ending (sink_state O.written O.faults output.old)
         (sink_state O.written O.faults output.new)
-        (Writes (sink_state O.written O.faults output.old) (sink_state O.written O.faults output.new)) }
+        (Writes (sink_state O.written O.faults output.old)
+        (sink_state O.written O.faults output.new)) }
     ensures later { O.faults output.old ≤ O.faults output.new }
 {
     match ending.write(output) {
@@ -34,12 +38,28 @@ fn close<O: Sink>(output: &mut O, ending: Ending) -> u8
 fn close_usage<O: Sink>(output: &mut O) -> u8
     ensures closes { Closes result usage (sink_state O.written O.faults output.old)
         (sink_state O.written O.faults output.new)
-        (Writes (sink_state O.written O.faults output.old) (sink_state O.written O.faults output.new)) }
+        (Writes (sink_state O.written O.faults output.old)
+        (sink_state O.written O.faults output.new)) }
     ensures later { O.faults output.old ≤ O.faults output.new }
 {
     match write_all(output, b"usage: doctor\n") {
         Ok(()) => USAGE,
         Err(_) => WRITE_FAULT,
+    }
+}
+
+// What is said of the lanes that were found.
+fn say(alloc: Global, setup: &Setup, found: &Found) -> Result<Report, Ending>
+    requires runs { IsRunnable (state_of setup.now) }
+    requires count { length found.now.rows.items ≡ length setup.now.queues }
+    ensures ok { IfOk result (λ report. (count : ℕ) (lanes : List FoundLane) →
+        AreSorted count lanes found.now.rows.items → Says setup.now.queues lanes report) }
+    ensures memory { IfErr result (λ ending. ending ≡ no_memory) }
+{
+    let mut report = Report::new(alloc);
+    match report.add_all(setup, found) {
+        Ok(()) => Ok(report),
+        Err(_) => Err(Ending::no_memory()),
     }
 }
 
@@ -60,13 +80,9 @@ fn examine_nodes<Y: Yard>(
         Ok(found) => found,
         Err(_) => return Err(Ending::no_memory()),
     };
-    if let Err(ending) = read_nodes(alloc, setup, root, yard, &mut found) {
-        return Err(ending);
-    }
-    let mut report = Report::new(alloc);
-    match report.add_all(setup, &found) {
-        Ok(()) => Ok(report),
-        Err(_) => Err(Ending::no_memory()),
+    match read_nodes(alloc, setup, root, yard, &mut found) {
+        Ok(()) => say(alloc, setup, &found),
+        Err(ending) => Err(ending),
     }
 }
 
