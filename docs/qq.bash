@@ -12,14 +12,15 @@ _qq() {
     --node) COMPREPLY=($(compgen -W "1 2 3 4 5 6 7" -- "$word")); return ;;
   esac
   case "$COMP_CWORD:${COMP_WORDS[1]}" in
-    1:*) words="script drill dump check queues picture storm help version prove path" ;;
+    1:*) words="script drill dump doctor check queues picture storm help version prove path" ;;
     *:script) words="--nodes --group --queues --definitions --ignore-policies --root --log-bytes --force" ;;
     *:drill) words="--nodes --check" ;;
     *:dump) words="--root --node" ;;
+    *:doctor) words="--root --nodes --group --queues --definitions --ignore-policies" ;;
     *:check) words="--nodes --group --queues --definitions --ignore-policies" ;;
     *:queues) words="--root --messages" ;;
     *:picture) words="--nodes --group --queues" ;;
-    *:help) words="script drill dump check queues picture storm help version prove path --nodes --group --queues --definitions --ignore-policies --root --log-bytes --node --force --check --messages publish get send subscribe link credit attach settle return discard cancel purge end mute unmute resend manual auto pump write sync notice tick deliver lose copy crash restart show 0 2 3 4 5 6 7 8 9 11 12 20" ;;
+    *:help) words="script drill dump doctor check queues picture storm help version prove path --nodes --group --queues --definitions --ignore-policies --root --log-bytes --node --force --check --messages publish get send subscribe link credit attach settle return discard cancel purge end mute unmute resend manual auto pump write sync notice tick deliver lose copy crash restart show 0 2 3 4 5 6 7 8 9 11 12 20" ;;
   esac
   COMPREPLY=($(compgen -W "$words" -- "$word"))
   case "${COMP_WORDS[1]}" in check | queues | picture | storm)

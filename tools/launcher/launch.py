@@ -18,6 +18,7 @@ OWN = {
     "help": "helping",
     "version": "helping",
     "check": "checking",
+    "doctor": "doctor",
     "queues": "queues",
     "picture": "picture",
     "storm": "storm",

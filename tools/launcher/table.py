@@ -31,6 +31,12 @@ COMMANDS = {
     "dump": Command(
         "dump --root DIR --node N", "prints what the log files of a node's folder hold", ("--root", "--node")
     ),
+    "doctor": Command(
+        "doctor --root DIR --nodes N (--queues N [--group N] | --definitions NAME)",
+        "reads the folders of a stopped cluster, changes nothing, and says of each queue up to which place a majority "
+        "agrees, or where two nodes differ",
+        ("--root", *CLUSTER),
+    ),
     "check": Command(
         "check FILE [OPTION..]", "reads a script or an export, names each fault in it, and runs nothing", CLUSTER
     ),

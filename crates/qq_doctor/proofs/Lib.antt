@@ -1,0 +1,7 @@
+mod Differing
+mod Pairs
+mod Reached
+mod NodesRead
+mod Refused
+mod Saying
+mod Sorting
