@@ -3,8 +3,13 @@ pipe, a drill, and a short script."""
 import os
 import pty
 import re
+import select
+import signal
 import subprocess
+import sys
 
+# How long anything may take to be shown.
+SECONDS = 600
 # A program that reads its input late.
 SLOW = """#!/bin/sh
 sleep 1.5; head -n 3; sleep 3; cat > /dev/null
@@ -34,6 +39,8 @@ def interrupted():
     """Returns what a terminal shows of a run that is ended there."""
     process, ours = pty.fork()
     if process == 0:
+        # What runs this may ignore it, as a shell does for what it has in the background.
+        signal.signal(signal.SIGINT, signal.SIG_DFL)
         os.execv("./qq", ["./qq", "script"])
     text = read_until(ours, b"printed\r\n")
     os.write(ours, b"publish a\n")
@@ -47,6 +54,8 @@ def interrupted():
 def read_until(file, wanted):
     text = b""
     while wanted not in text:
+        if not select.select([file], [], [], SECONDS)[0]:
+            sys.exit(f"nothing came in {SECONDS} seconds after {text}")
         text += os.read(file, 4096)
     return text
 
