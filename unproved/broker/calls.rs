@@ -4,11 +4,13 @@ use crate::embedded::{opened, serve};
 use crate::runs::four_takers;
 use anyhow::{Result, bail, ensure};
 use cases::{Trials, run_each};
-use qq_base::{Ids, QueueId, SessionId};
+use qq_base::{ConsumerId, Ids, QueueId, SessionId};
 use qq_broker::{Broker, Called, Pumped};
-use qq_entry::{Answer, AuditRow, Content, Deaths, Message, Mode, Unstamped};
+use qq_cluster_model::Printed;
+use qq_entry::{Answer, AuditRow, Content, Deaths, Delivery, Message, Mode, Unstamped};
 use qq_mem_disk::MemDisk;
-use qq_taker::{Desk, Handed, Heard, NotingTaker, Refusal, Taker, Verdict, What};
+use qq_session::Shown;
+use qq_taker::{Desk, NotingTaker, Taker, Verdict};
 use std::alloc::Global;
 
 const FIRST: QueueId = QueueId(1);
@@ -43,15 +45,6 @@ const SUBSCRIBE: Unstamped = Unstamped::Subscribe {
     mode: Mode::Prefetch(2),
 };
 
-fn refusal_words(alloc: Global, why: Refusal) -> Result<String> {
-    Ok(match why {
-        Refusal::NoLeader => String::from_str(alloc, "no leader")?,
-        Refusal::WindowFull => String::from_str(alloc, "window full")?,
-        Refusal::Ended => String::from_str(alloc, "ended")?,
-        Refusal::NotTaken { id } => format!(in alloc; "not taken {id}")?,
-    })
-}
-
 /// A row's index, and what it answers.
 fn row_words(alloc: Global, row: &AuditRow) -> Result<String> {
     let answer = match &row.answer {
@@ -66,31 +59,46 @@ fn row_words(alloc: Global, row: &AuditRow) -> Result<String> {
 }
 
 /// A delivery's consumer, and its id.
-fn handed_words(alloc: Global, handed: &Handed) -> Result<String> {
-    let by = handed.consumer;
+fn delivery_words(alloc: Global, by: ConsumerId, delivery: &Delivery) -> Result<String> {
     Ok(format!(in alloc;
         "delivery {} to {}/{}",
-        handed.delivery.id, by.session.number, by.tag
+        delivery.id, by.session.number, by.tag
     )?)
 }
 
-fn heard_words(alloc: Global, heard: &Heard) -> Result<String> {
-    let what = match &heard.what {
-        What::Answer(row) => row_words(alloc, row)?,
-        What::Delivery(handed) => handed_words(alloc, handed)?,
-        What::Refused { session, why } => {
-            let why = refusal_words(alloc, *why)?;
-            format!(in alloc; "refused {session} {why}")?
+fn shown_words(alloc: Global, shown: &Shown) -> Result<String> {
+    Ok(match shown {
+        Shown::Answered { row } => row_words(alloc, row)?,
+        Shown::Delivered { consumer, delivery } => delivery_words(alloc, *consumer, delivery)?,
+        Shown::NoLeader { .. } => String::from_str(alloc, "no leader")?,
+        Shown::WindowFull { .. } => String::from_str(alloc, "window full")?,
+        Shown::HasEnded { .. } => String::from_str(alloc, "ended")?,
+        Shown::NotTaken { id, .. } => format!(in alloc; "not taken {id}")?,
+        Shown::Attached { number, .. } => format!(in alloc; "attached {number}")?,
+        Shown::IsBusy { number, .. } => format!(in alloc; "busy {number}")?,
+        Shown::Taken { number, delivery, .. } => {
+            format!(in alloc; "taker {number} took {}", delivery.id)?
         }
-    };
-    Ok(format!(in alloc; "q{} {what}", heard.queue.0)?)
+        Shown::Dropped { number, .. } => format!(in alloc; "dropped {number}")?,
+    })
+}
+
+fn printed_words(alloc: Global, printed: &Printed) -> Result<String> {
+    Ok(match printed {
+        Printed::Of { place, shown } => {
+            let shown = shown_words(alloc, shown)?;
+            format!(in alloc; "q{place} {shown}")?
+        }
+        Printed::Stopped { node } => format!(in alloc; "node {node} stopped")?,
+        _ => String::from_str(alloc, "something else")?,
+    })
 }
 
 /// What a call came to, in words.
 fn called_words(alloc: Global, called: &Called) -> Result<String> {
-    let mut text = match called.outcome {
-        Ok(()) => String::from_str(alloc, "given")?,
-        Err(why) => refusal_words(alloc, why)?,
+    let mut text = match &called.refused {
+        None => String::from_str(alloc, "given")?,
+        Some(shown) => shown_words(alloc, shown)?,
     };
     for row in called.rows.as_slice() {
         text.push_str("; ")?;
@@ -98,11 +106,11 @@ fn called_words(alloc: Global, called: &Called) -> Result<String> {
     }
     for handed in called.effects.as_slice() {
         text.push_str("; ")?;
-        text.push_str(handed_words(alloc, handed)?.as_str())?;
+        text.push_str(delivery_words(alloc, handed.consumer, &handed.delivery)?.as_str())?;
     }
-    for heard in called.others.as_slice() {
+    for printed in called.others.as_slice() {
         text.push_str("; ")?;
-        text.push_str(heard_words(alloc, heard)?.as_str())?;
+        text.push_str(printed_words(alloc, printed)?.as_str())?;
     }
     if called.pumped == Pumped::Busy {
         text.push_str("; busy")?;
@@ -216,32 +224,26 @@ fn calls_tell_what_other_queues_show(rt: HostRuntime) -> Result<()> {
     Ok(())
 }
 
-/// A taker sees what is handed out in a call. Its verdict is carried out there, and who listens beside it hears nothing.
+/// A taker sees what is handed out in a call. Its verdict is carried out there, and is among the others.
 fn takers_see_what_a_call_hands_out(rt: HostRuntime) -> Result<()> {
     let alloc = rt.alloc();
     let mut takers = Desk::new(alloc);
     ensure!(takers.add(NotingTaker::new(alloc, Verdict::Settle)) == Ok(()));
     let broker = &mut opened(rt, 1, &mut takers)?;
     let takers = &mut takers;
-    takers.listen(alloc);
     serve(
         rt,
         broker,
         takers,
         &["subscribe 1 q1 1 2", "attach 1 q1 1 1"],
     )?;
-    let wanted = "given; row 3 confirmed; row 4 done";
+    let wanted = "given; row 3 confirmed; row 4 done; q1 taker 1 took 1";
     calls(rt, broker, takers, 2, publish(alloc, "a")?, wanted)?;
     let Some(taker) = takers.taker(1) else {
         bail!("the taker is gone");
     };
     ensure!(taker.list().len() == 1);
     ensure!(taker.list()[0].id == 1);
-    let Some(heard) = takers.take_heard(alloc) else {
-        bail!("nobody listens");
-    };
-    ensure!(heard.len() == 1);
-    ensure!(heard_words(alloc, &heard.as_slice()[0])?.as_str() == "q1 row 2 subscribed");
     ensure!(broker.counts(FIRST) == Some((0, 1)));
     Ok(())
 }

@@ -88,7 +88,7 @@ module _ {D : Type 0} (given : Giving D) (facts : DiskFacts D) (s : Setup) where
         allowed = refl;
         disks = had-so given facts s held (run_after run (run.events ++ [])) next;
         stands = next;
-        says = sym (append-nil told.text);
+        says = sym (append-nil told.printed);
         sees = refl;
       }
 

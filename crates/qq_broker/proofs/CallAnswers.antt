@@ -1,11 +1,12 @@
--- What a call answers is true of its queue's audit, a command is given to a ready leader, and a call is a line.
-use Rattle.std.proofs.Common.{◌≡◌, ℕ, Bool, true, false, List, [], ◌∷◌, ◌++◌, Option, None, Some, refl, sym, ap, subst, ◌∙◌}
-use Rattle.std.specs.Prelude.{Contains, Err, filter, filter_map, if◌then◌else◌}
+-- What a call answers is true of its queue's audit, all that is printed is in it, a command is given to a ready leader,
+-- and a call is a line.
+use Rattle.std.proofs.Common.{◌≡◌, ◌+◌, ℕ, suc, Bool, true, false, List, [], ◌∷◌, ◌++◌, Option, None, Some, refl, sym, ap, arith, subst, ◌∙◌, cond, length}
+use Rattle.std.specs.Prelude.{Contains, ◌&&◌, filter_map, nat_eq, not, if◌then◌else◌}
 use Rattle.std.specs.List.{AllByRecursion, cons_option}
 use Rattle.std.proofs.lemmas.Bool.{eqb-true, false≢true}
 use Rattle.qq_base.specs.declared.ids.QueueId.{QueueId}
 use Rattle.qq_base.specs.declared.ids.SessionId.{SessionId}
-use Rattle.qq_base.proofs.Lists.{AllByRecursion-in}
+use Rattle.qq_base.proofs.Lists.{AllByRecursion-filter, AllByRecursion-in}
 use Rattle.qq_entry.specs.Command.{stamp}
 use Rattle.qq_entry.specs.declared.answer.Answer.TheVariants.{Confirmed}
 use Rattle.qq_entry.specs.declared.audit.AuditRow.{AuditRow}
@@ -20,99 +21,51 @@ use Rattle.qq_session.specs.Clients.{may_hand}
 use Rattle.qq_session.specs.ExactlyOne.{ExactlyOne}
 use Rattle.qq_session.specs.Printed.{IsConfirmedPublish}
 use Rattle.qq_session.specs.declared.shown.Shown.{Shown}
-use Rattle.qq_session.specs.declared.shown.Shown.TheVariants.{Answered, Attached, Delivered, Dropped, HasEnded, IsBusy, NoLeader, NotTaken, Taken, WindowFull}
+use Rattle.qq_session.specs.declared.shown.Shown.TheVariants.{Answered, Delivered, HasEnded}
 use Rattle.qq_taker.specs.declared.handed.Handed.{Handed}
-use Rattle.qq_taker.specs.declared.heard.Heard.{Heard}
-use Rattle.qq_taker.specs.declared.heard.Refusal.TheVariants as refusals
-use Rattle.qq_taker.specs.declared.heard.What.{What}
-use Rattle.qq_taker.specs.declared.heard.What.TheVariants.{Answer, Delivery, Refused}
-use Rattle.qq_cluster_model.specs.Cluster.{At, Cluster, ClusterEvent, Of, Printed, Setup, all_prints, cluster_after, new_cluster}
-use Rattle.qq_cluster_model.specs.ClusterLaws.{HasGroups, IsTrueOf, PrintsWhatIsTrue}
+use Rattle.qq_cluster_model.specs.Cluster.{At, Cluster, ClusterEvent, Setup, all_prints, cluster_after, new_cluster}
+use Rattle.qq_cluster_model.specs.declared.printed.Printed.{Printed}
+use Rattle.qq_cluster_model.specs.declared.printed.Printed.TheVariants.{Of}
+use Rattle.qq_cluster_model.specs.ClusterLaws.{HasGroups, IsTrueOf, PrintsWhatIsTrue, shown_at}
 use Rattle.qq_cluster_model.specs.Lines.{IsLine}
-use Rattle.qq_cluster_model.specs.Outcome.{all_heard, delivery_in, delivery_told}
+use Rattle.qq_cluster_model.specs.Outcome.{delivery_shown}
 use Rattle.qq_cluster_model.specs.Queue.{Queue, Submits, TellsEnded, audit_rows, has_leader}
 use Rattle.qq_cluster_model.specs.Rules.{Is, IsClaimed, IsGiven, IsNothing, IsPump, if_so, is_ended, not_taken}
 use Rattle.qq_cluster_model.proofs.Outcomes.{prints-both}
 use Rattle.qq_cluster_run.specs.Serving.{after_all}
-use Rattle.qq_broker.specs.Calling.{Answers, IsCall, claimed_by, handed_to, heard_after, is_heard_at, outcome_at, outcome_heard, row_told}
+use Rattle.qq_broker.specs.Calling.{Answers, IsCall, handed_shown, is_answer, is_answer_at, others_shown, refused_at, refused_by, refused_in, refused_to, row_shown, rows_shown}
 use Rattle.qq_broker.specs.declared.calling.Called.{Called}
 
--- ---- what is heard is true
+-- ---- what a queue shows is true of it
 
--- of a cluster
-abbrev IsTrueAt : Cluster → ℕ → What → Type 0
-IsTrueAt c place (Answer row) = IsTrueOf c (Of place (Answered row))
-IsTrueAt c place (Delivery h) = IsTrueOf c (Of place (Delivered h.consumer h.delivery))
-IsTrueAt c place (Refused session why) = Unit {0}
-
-abbrev IsTrueHeard : Cluster → Heard → Type 0
-IsTrueHeard c h = IsTrueAt c h.queue.0 h.what
-
-shown-heard : (c : Cluster) (place : ℕ) (shown : Shown) (rest : List Printed) → IsTrueOf c (Of place shown)
-    → AllByRecursion (IsTrueHeard c) (all_heard rest)
-    → AllByRecursion (IsTrueHeard c) (all_heard (Of place shown ∷ rest))
-shown-heard c place (Answered row) rest so more = (so, more)
-shown-heard c place (Delivered consumer delivery) rest so more = (so, more)
-shown-heard c place (NoLeader session) rest so more = (tt, more)
-shown-heard c place (WindowFull session) rest so more = (tt, more)
-shown-heard c place (HasEnded session) rest so more = (tt, more)
-shown-heard c place (NotTaken session id) rest so more = (tt, more)
-shown-heard c place (Attached session number) rest so more = more
-shown-heard c place (IsBusy session number) rest so more = more
-shown-heard c place (Taken number consumer delivery verdict) rest so more = more
-shown-heard c place (Dropped session number) rest so more = more
-
-heard-true : (c : Cluster) (printed : List Printed) → AllByRecursion (IsTrueOf c) printed
-    → AllByRecursion (IsTrueHeard c) (all_heard printed)
-heard-true c [] so = tt
-heard-true c (Of place shown ∷ rest) so = shown-heard c place shown rest so.0 (heard-true c rest so.1)
-heard-true c (_ ∷ rest) so = heard-true c rest so.1
-
--- ---- what a queue showed of it
-
--- an item of a filtered list goes before others, or doesn't
 AllFirst : {A : Type 0} (P : A → Type 0) (x : A) (xs : List A) (b : Bool) → (b ≡ true → P x) → AllByRecursion P xs
-    → AllByRecursion P (if b then x ∷ xs else xs)
+    → AllByRecursion P (cons_option (if b then Some x else None) xs)
 AllFirst P x xs true here rest = (here refl, rest)
 AllFirst P x xs false here rest = rest
 
--- what a queue showed is true of it
-own-true : (c : Cluster) (place : ℕ) (list : List Heard) → AllByRecursion (IsTrueHeard c) list
-    → AllByRecursion (λ (h : Heard). IsTrueAt c place h.what) (filter (is_heard_at place) list)
+abbrev IsTrueAt : Cluster → ℕ → Shown → Type 0
+IsTrueAt c place shown = IsTrueOf c (Of place shown)
+
+own-true : (c : Cluster) (place : ℕ) (printed : List Printed) → AllByRecursion (IsTrueOf c) printed
+    → AllByRecursion (IsTrueAt c place) (shown_at place printed)
 own-true c place [] so = tt
-own-true c place (h ∷ rest) so =
-    AllFirst (λ (g : Heard). IsTrueAt c place g.what) h (filter (is_heard_at place) rest) (is_heard_at place h)
-    (λ is. subst (λ (n : ℕ). IsTrueAt c n h.what) (eqb-true h.queue.0 place is) so.0)
-    (own-true c place rest so.1)
+own-true c place (Of own shown ∷ rest) so =
+    AllFirst (IsTrueAt c place) shown (shown_at place rest) (nat_eq own place)
+    (λ is. subst (λ (n : ℕ). IsTrueAt c n shown) (eqb-true own place is) so.0) (own-true c place rest so.1)
+own-true c place (_ ∷ rest) so = own-true c place rest so.1
 
-row-first : (c : Cluster) (place : ℕ) (what : What) (rows : List AuditRow) → IsTrueAt c place what
-    → AllByRecursion (λ (row : AuditRow). IsTrueOf c (Of place (Answered row))) rows
-    → AllByRecursion (λ (row : AuditRow). IsTrueOf c (Of place (Answered row))) (cons_option (row_told what) rows)
-row-first c place (Answer row) rows so more = (so, more)
-row-first c place (Delivery handed) rows so more = more
-row-first c place (Refused session why) rows so more = more
-
-rows-true : (c : Cluster) (place : ℕ) (list : List Heard)
-    → AllByRecursion (λ (h : Heard). IsTrueAt c place h.what) list
-    → AllByRecursion (λ (row : AuditRow). IsTrueOf c (Of place (Answered row)))
-    (filter_map (λ (h : Heard). row_told h.what) list)
+rows-true : (c : Cluster) (place : ℕ) (list : List Shown) → AllByRecursion (IsTrueAt c place) list
+    → AllByRecursion (λ (row : AuditRow). IsTrueAt c place (Answered row)) (filter_map row_shown list)
 rows-true c place [] so = tt
-rows-true c place (h ∷ rest) so = row-first c place h.what _ so.0 (rows-true c place rest so.1)
+rows-true c place (Answered row ∷ rest) so = (so.0, rows-true c place rest so.1)
+rows-true c place (_ ∷ rest) so = rows-true c place rest so.1
 
-handed-first : (c : Cluster) (place : ℕ) (what : What) (list : List Handed) → IsTrueAt c place what
-    → AllByRecursion (λ (h : Handed). IsTrueOf c (Of place (Delivered h.consumer h.delivery))) list
-    → AllByRecursion (λ (h : Handed). IsTrueOf c (Of place (Delivered h.consumer h.delivery)))
-    (cons_option (delivery_told what) list)
-handed-first c place (Answer row) list so more = more
-handed-first c place (Delivery handed) list so more = (so, more)
-handed-first c place (Refused session why) list so more = more
-
-handed-true : (c : Cluster) (place : ℕ) (list : List Heard)
-    → AllByRecursion (λ (h : Heard). IsTrueAt c place h.what) list
-    → AllByRecursion (λ (h : Handed). IsTrueOf c (Of place (Delivered h.consumer h.delivery)))
-    (filter_map delivery_in list)
+handed-true : (c : Cluster) (place : ℕ) (list : List Shown) → AllByRecursion (IsTrueAt c place) list
+    → AllByRecursion (λ (h : Handed). IsTrueAt c place (Delivered h.consumer h.delivery))
+    (filter_map delivery_shown list)
 handed-true c place [] so = tt
-handed-true c place (h ∷ rest) so = handed-first c place h.what _ so.0 (handed-true c place rest so.1)
+handed-true c place (Delivered consumer delivery ∷ rest) so = (so.0, handed-true c place rest so.1)
+handed-true c place (_ ∷ rest) so = handed-true c place rest so.1
 
 -- ---- of a call
 
@@ -133,25 +86,22 @@ module _ (law : PrintsTrue) (setup : Setup) (events early late : List ClusterEve
   then' = after_all setup (events ++ (early ++ late))
 
   -- what the pump has printed
-  last-true : AllByRecursion (IsTrueOf then') (all_prints setup (cluster_after c early) late)
-  last-true =
-      all-last (IsTrueOf then') (all_prints setup c early) (all_prints setup (cluster_after c early) late)
+  abbrev printed : List Printed
+  printed = all_prints setup (cluster_after c early) late
+
+  all-true : AllByRecursion (IsTrueOf then') printed
+  all-true =
+      all-last (IsTrueOf then') (all_prints setup c early) printed
       (subst (AllByRecursion (IsTrueOf then')) (prints-both setup c early late)
       (all-last (IsTrueOf then') (all_prints setup (new_cluster setup) events) (all_prints setup c (early ++ late))
       (subst (AllByRecursion (IsTrueOf then')) (prints-both setup (new_cluster setup) events (early ++ late))
       (law setup (events ++ (early ++ late)) groups))))
 
-  own : AllByRecursion (λ (h : Heard). IsTrueAt then' place h.what)
-      (filter (is_heard_at place) (heard_after setup (cluster_after c early) late))
-  own =
-      own-true then' place (heard_after setup (cluster_after c early) late)
-      (heard-true then' (all_prints setup (cluster_after c early) late) last-true)
-
-  row-true : (row : AuditRow) → Contains called.rows.items row → IsTrueOf then' (Of place (Answered row))
+  row-true : (row : AuditRow) → Contains called.rows.items row → IsTrueAt then' place (Answered row)
   row-true row there =
-      AllByRecursion-in (λ (r : AuditRow). IsTrueOf then' (Of place (Answered r))) row called.rows.items
-      (subst (AllByRecursion (λ (r : AuditRow). IsTrueOf then' (Of place (Answered r)))) (sym so.rows)
-      (rows-true then' place (filter (is_heard_at place) (heard_after setup (cluster_after c early) late)) own))
+      AllByRecursion-in (λ (r : AuditRow). IsTrueAt then' place (Answered r)) row called.rows.items
+      (subst (AllByRecursion (λ (r : AuditRow). IsTrueAt then' place (Answered r))) (sym so.rows)
+      (rows-true then' place (shown_at place printed) (own-true then' place printed all-true)))
       (in_contains called.rows.items row there)
 
   pub row-audited : (row : AuditRow) → Contains called.rows.items row
@@ -166,19 +116,80 @@ module _ (law : PrintsTrue) (setup : Setup) (events early late : List ClusterEve
       → Contains (effects_of (empty_queue (then'.queue place).args) (then'.queue place).group.audit)
       (Deliver handed.consumer handed.delivery)
   handed-made handed there =
-      (AllByRecursion-in (λ (h : Handed). IsTrueOf then' (Of place (Delivered h.consumer h.delivery))) handed
+      (AllByRecursion-in (λ (h : Handed). IsTrueAt then' place (Delivered h.consumer h.delivery)) handed
       called.effects.items
-      (subst (AllByRecursion (λ (h : Handed). IsTrueOf then' (Of place (Delivered h.consumer h.delivery))))
+      (subst (AllByRecursion (λ (h : Handed). IsTrueAt then' place (Delivered h.consumer h.delivery)))
       (sym so.effects)
-      (handed-true then' place (filter (is_heard_at place) (heard_after setup (cluster_after c early) late)) own))
+      (handed-true then' place (shown_at place printed) (own-true then' place printed all-true)))
       (in_contains called.effects.items handed there)).2
+
+  pub other-true : (other : Printed) → Contains called.others.items other → IsTrueOf then' other
+  other-true other there =
+      AllByRecursion-in (IsTrueOf then') other called.others.items
+      (subst (AllByRecursion (IsTrueOf then')) (sym so.others)
+      (AllByRecursion-filter (IsTrueOf then') (λ (p : Printed). not (is_answer_at place p)) printed all-true))
+      (in_contains called.others.items other there)
+
+-- ---- all that is printed is answered
+
+-- one more, where it belongs
+row-more : (n a b d : ℕ) → n ≡ a + b + d → suc n ≡ suc a + b + d
+row-more n a b d is = omega (arith, is)
+
+handed-more : (n a b d : ℕ) → n ≡ a + b + d → suc n ≡ a + suc b + d
+handed-more n a b d is = omega (arith, is)
+
+other-more : (n a b d : ℕ) → n ≡ a + b + d → suc n ≡ a + b + suc d
+other-more n a b d is = omega (arith, is)
+
+-- by whether it is of the queue
+module _ (list : List Shown) (others : List Printed) where
+  abbrev rows : ℕ
+  rows = length (filter_map row_shown list)
+
+  abbrev effects : ℕ
+  effects = length (filter_map delivery_shown list)
+
+  counts-shown : (own : Bool) (place : ℕ) (shown : Shown) (n : ℕ) → n ≡ rows + effects + length others
+      → let all : List Shown = cons_option (if own then Some shown else None) list in
+      suc n
+      ≡ length (filter_map row_shown all) + length (filter_map delivery_shown all)
+      + length (cond (not (own && is_answer shown)) (Of place shown ∷ others) others)
+  counts-shown true place (Answered row) n is = row-more n rows effects (length others) is
+  counts-shown true place (Delivered consumer delivery) n is = handed-more n rows effects (length others) is
+  counts-shown true place _ n is = other-more n rows effects (length others) is
+  counts-shown false place shown n is = other-more n rows effects (length others) is
+
+counts : (place : ℕ) (printed : List Printed)
+    → length printed
+    ≡ length (rows_shown place printed) + length (handed_shown place printed) + length (others_shown place printed)
+counts place [] = refl
+counts place (Of own shown ∷ rest) =
+    counts-shown (shown_at place rest) (others_shown place rest) (nat_eq own place) own shown (length rest)
+    (counts place rest)
+counts place (_ ∷ rest) =
+    other-more (length rest) (length (rows_shown place rest)) (length (handed_shown place rest))
+    (length (others_shown place rest)) (counts place rest)
+
+pub counts-all : (setup : Setup) (c : Cluster) (early late : List ClusterEvent) (place : ℕ) (called : Called)
+    → Answers setup c place early late called
+    → length (all_prints setup (cluster_after c early) late)
+    ≡ length called.rows.items + length called.effects.items + length called.others.items
+counts-all setup c early late place called so =
+    let printed : List Printed = all_prints setup (cluster_after c early) late in
+    counts place printed
+    ∙ ap (λ (l : List AuditRow).
+    length l + length (handed_shown place printed) + length (others_shown place printed)) (sym so.rows)
+    ∙ ap (λ (l : List Handed). length called.rows.items + length l + length (others_shown place printed))
+    (sym so.effects)
+    ∙ ap (λ (l : List Printed). length called.rows.items + length called.effects.items + length l) (sym so.others)
 
 -- ---- whether a command is given
 
--- what is heard where a command may be handed out, and a leader is ready
-submits-heard : (setup : Setup) (c : Cluster) (session place : ℕ) (body : Unstamped)
-    → outcome_heard (heard_after setup c (At place (Submits session body) ∷ [])) ≡ handed_to (c.queue place) session
-submits-heard setup c session place body = by may (has_leader q) refl refl
+-- what is shown where a command may be handed out, and a leader is ready
+submits-shown : (setup : Setup) (c : Cluster) (session place : ℕ) (body : Unstamped)
+    → refused_in (all_prints setup c (At place (Submits session body) ∷ [])) ≡ refused_to (c.queue place) session
+submits-shown setup c session place body = by may (has_leader q) refl refl
   where
     q : Queue
     q = c.queue place
@@ -187,39 +198,39 @@ submits-heard setup c session place body = by may (has_leader q) refl refl
     may = may_hand (q.clients session).numbers
 
     by : (m l : Bool) → may_hand ((c.queue place).clients session).numbers ≡ m → has_leader (c.queue place) ≡ l
-        → outcome_heard (heard_after setup c (At place (Submits session body) ∷ [])) ≡ handed_to (c.queue place) session
+        → refused_in (all_prints setup c (At place (Submits session body) ∷ [])) ≡ refused_to (c.queue place) session
     by true true one two = rw (one, two) refl
     by true false one two = rw (one, two) refl
     by false l one two = rw one refl
 
-claimed-heard : (setup : Setup) (c : Cluster) (session place : ℕ) (body : Unstamped) (o : Option ℕ)
+claimed-shown : (setup : Setup) (c : Cluster) (session place : ℕ) (body : Unstamped) (o : Option ℕ)
     (events : List ClusterEvent) → IsClaimed o session body place c events
-    → outcome_heard (heard_after setup c events) ≡ claimed_by o (c.queue place) session
-claimed-heard setup c session place body None events is =
-    subst (λ (l : List ClusterEvent). outcome_heard (heard_after setup c l) ≡ handed_to (c.queue place) session)
-    (sym is) (submits-heard setup c session place body)
-claimed-heard setup c session place body (Some id) events is =
-    ap (λ (l : List ClusterEvent). outcome_heard (heard_after setup c l)) is
+    → refused_in (all_prints setup c events) ≡ refused_by o (c.queue place) session
+claimed-shown setup c session place body None events is =
+    subst (λ (l : List ClusterEvent). refused_in (all_prints setup c l) ≡ refused_to (c.queue place) session)
+    (sym is) (submits-shown setup c session place body)
+claimed-shown setup c session place body (Some id) events is =
+    ap (λ (l : List ClusterEvent). refused_in (all_prints setup c l)) is
 
-given-heard : (setup : Setup) (c : Cluster) (session place : ℕ) (body : Unstamped) (events : List ClusterEvent)
+given-shown : (setup : Setup) (c : Cluster) (session place : ℕ) (body : Unstamped) (events : List ClusterEvent)
     → IsGiven session body place c events
-    → outcome_heard (heard_after setup c events) ≡ outcome_at (c.queue place) session body
-given-heard setup c session place body events = by (is_ended session (c.queue place))
+    → refused_in (all_prints setup c events) ≡ refused_at (c.queue place) session body
+given-shown setup c session place body events = by (is_ended session (c.queue place))
   where
     by : (b : Bool)
         → if_so b (Is (At place (TellsEnded session)))
         (IsClaimed (not_taken session body (c.queue place)) session body place) c events
-        → outcome_heard (heard_after setup c events)
-        ≡ (if b then Err refusals.Ended
-        else claimed_by (not_taken session body (c.queue place)) (c.queue place) session)
-    by true is = ap (λ (l : List ClusterEvent). outcome_heard (heard_after setup c l)) is
-    by false so = claimed-heard setup c session place body (not_taken session body (c.queue place)) events so
+        → refused_in (all_prints setup c events)
+        ≡ (if b then Some (HasEnded session)
+        else refused_by (not_taken session body (c.queue place)) (c.queue place) session)
+    by true is = ap (λ (l : List ClusterEvent). refused_in (all_prints setup c l)) is
+    by false so = claimed-shown setup c session place body (not_taken session body (c.queue place)) events so
 
-pub outcome-given : (setup : Setup) (c : Cluster) (session place : ℕ) (body : Unstamped)
+pub refused-given : (setup : Setup) (c : Cluster) (session place : ℕ) (body : Unstamped)
     (early late : List ClusterEvent) (called : Called) → IsGiven session body place c early
-    → Answers setup c place early late called → called.outcome ≡ outcome_at (c.queue place) session body
-outcome-given setup c session place body early late called given' so =
-    so.outcome ∙ given-heard setup c session place body early given'
+    → Answers setup c place early late called → called.refused ≡ refused_at (c.queue place) session body
+refused-given setup c session place body early late called given' so =
+    so.refused ∙ given-shown setup c session place body early given'
 
 -- ---- a call as a line
 

@@ -12,7 +12,8 @@ use Rattle.qq_script_lines.specs.declared.line.Nodes.{Nodes as Which}
 use Rattle.qq_script_lines.specs.declared.line.Nodes.TheVariants.{All, One}
 use Rattle.qq_script_lines.specs.declared.line.ScriptLine.TheVariants.{Crash}
 use Rattle.qq_route.specs.declared.setup.Setup.{Setup}
-use Rattle.qq_cluster_model.specs.Cluster.{Cluster, ClusterEvent, Crashes, Printed, Setup as ClusterSetup, all_prints, cluster_happens}
+use Rattle.qq_cluster_model.specs.Cluster.{Cluster, ClusterEvent, Crashes, Setup as ClusterSetup, all_prints, cluster_happens}
+use Rattle.qq_cluster_model.specs.declared.printed.Printed.{Printed}
 use Rattle.qq_cluster_model.specs.Lines.{IsLine}
 use Rattle.qq_cluster_model.specs.Rules.{ForEach, Is}
 use Rattle.qq_cluster_model.specs.Outcome.{Outcome, sees_prints}
@@ -106,8 +107,7 @@ module _ {D : Type 0} (given : Giving D) (facts : DiskFacts D) (s : Setup) (run 
         allowed = allowed;
         disks = had-so given facts s new (run_after run (run.events ++ more)) holds;
         stands = holds;
-        says = sym (append-nil told.text)
-            ∙ ap (λ (l : List Printed). told.text ++ flat_map (printed_text (setup_in s run)) l) (sym silent);
+        says = sym (append-nil told.printed) ∙ ap (λ (l : List Printed). told.printed ++ l) (sym silent);
         sees = ap (λ (l : List Printed). sees_prints l told.takers) (sym silent);
       }
 

@@ -3,10 +3,11 @@ use Rattle.std.proofs.Common.{◌≡◌, ◌≤◌, ℕ, List, [], ◌++◌, Som
 use Rattle.qq_disk.specs.Facts.{DiskFacts}
 use Rattle.qq_ports.specs.Streams.{SinkState, SourceState, Writes}
 use Rattle.qq_route.specs.declared.setup.Setup.{Setup}
-use Rattle.qq_taker.specs.Takers.{Takers, listen}
-use Rattle.qq_taker.specs.declared.heard.Heard.{Heard}
+use Rattle.qq_taker.specs.Takers.{Takers}
 use Rattle.qq_cluster_model.specs.Cluster.{Setup as ClusterSetup, all_prints, new_cluster}
-use Rattle.qq_cluster_model.specs.Outcome.{Outcome, all_heard, deliveries_among}
+use Rattle.qq_cluster_model.specs.Outcome.{Outcome, deliveries_among}
+use Rattle.qq_cluster_model.specs.declared.printed.Printed.{Printed}
+use Rattle.qq_cluster_run.specs.Texts.{texts_in}
 use Rattle.qq_cluster_run.proofs.Beginnings.{keeps-all}
 use Rattle.qq_cluster_run.specs.Drilling.{AreParts, Known, drill_text, first_known, is_led, know, part_lines, parts, tell}
 use Rattle.qq_cluster_run.specs.Drills.{HasDrilled, HasSummary}
@@ -14,18 +15,17 @@ use Rattle.qq_cluster_run.specs.Endings.{Ending, no_memory}
 use Rattle.qq_cluster_run.specs.Playing.{Knows}
 use Rattle.qq_cluster_run.specs.Runs.{Closes, MayNotOpen}
 use Rattle.qq_cluster_run.specs.Service.{HasOpened}
-use Rattle.qq_cluster_run.specs.Serving.{Run, after_all, all_text, cluster_in, setup_in}
+use Rattle.qq_cluster_run.specs.Serving.{Run, after_all, all_printed, cluster_in, setup_in}
 use Rattle.qq_cluster_run.specs.Setup.{cluster_over, new_logs}
 use Rattle.qq_cluster_run.specs.Troubles.{Trouble}
 use Rattle.qq_cluster_run.specs.declared.drilling.Part.{Part}
 use Rattle.qq_cluster_run.specs.declared.playing.Play.{Play}
 use Rattle.qq_cluster_run.specs.declared.stop.AskStop.{AskStop}
 use Rattle.qq_cluster.specs.declared.nodes.Nodes.{Nodes}
-use Rattle.qq_broker.specs.Drilling.{IsSilent, PartsDone, PartsStop, Plays, ending_at, run_with}
+use Rattle.qq_broker.specs.Drilling.{PartsDone, PartsStop, Plays, ending_at, run_with}
 use Rattle.qq_broker.specs.Drills.{HasPlayed}
 use Rattle.qq_broker.specs.Lives.{Giving}
 use Rattle.qq_broker.specs.Nodes.{Had, Holds, Meets}
-use Rattle.qq_broker.proofs.Drilled.{Hears}
 use Rattle.qq_broker.proofs.DrillStops.{within-earlier}
 use Rattle.qq_broker.proofs.GoingOn.{had-so}
 use Rattle.qq_broker.proofs.Meeting.{meets-earlier}
@@ -33,11 +33,6 @@ use Rattle.qq_broker.proofs.Meeting.{meets-earlier}
 -- no cluster of a setup is opened where there is no memory
 pub no-room : (met : Trouble → Type 0) (s : Setup) (ending : Ending) → ending ≡ no_memory → MayNotOpen met s ending
 no-room met s ending is = inr (new_logs, inl is)
-
--- somebody listens, and nothing was told yet
-pub listens : (old new : Outcome) → old.text ≡ [] → new ≡ record old { takers = listen old.takers } → IsSilent new
-listens old new none is =
-    record { text = ap (λ (o : Outcome). o.text) is ∙ none; heard = ap (λ (o : Outcome). o.takers.heard) is }
 
 module _ {D : Type 0} (given : Giving D) (facts : DiskFacts D) (s : Setup) where
   -- ---- its parts were done, or it stopped in one
@@ -82,24 +77,22 @@ module _ {D : Type 0} (given : Giving D) (facts : DiskFacts D) (s : Setup) where
       know S (new_cluster S) so.events (first_known number s.nodes)
 
   -- and that was told
-  pub opened-plays : Hears → (number : ℕ) (held : Nodes D) (before mid later : Outcome) (play next : Play)
-      → IsSilent before → (so : Opened held before mid) → Knows play (first_known number s.nodes)
-      → ((list : List Heard) → mid.takers.heard ≡ Some list → IsSilent later)
-      → ((list : List Heard) (x : Known) → mid.takers.heard ≡ Some list → Knows play x
-      → Knows next (tell (deliveries_among list) mid.text x))
+  pub opened-plays : (number : ℕ) (held : Nodes D) (before mid later : Outcome) (play next : Play)
+      → before.printed ≡ [] → (so : Opened held before mid) → Knows play (first_known number s.nodes)
+      → later.printed ≡ []
+      → ((x : Known) → Knows play x
+      → Knows next (tell (deliveries_among mid.printed) (texts_in s mid.printed) x))
       → Plays given facts s (first_run held before mid so) held later next (known_first number held before mid so)
-  opened-plays hears number held before mid later play next first so knew silent knows =
+  opened-plays number held before mid later play next first so knew silent knows =
       let S : ClusterSetup = cluster_over s so.logs in
-      let list : List Heard = all_heard (all_prints S (new_cluster S) so.events) in
-      let heard : mid.takers.heard ≡ Some list =
-      ap (λ (t : Takers). t.heard) so.sees ∙ hears S (new_cluster S) so.events before.takers [] first.heard in
-      let text : mid.text ≡ all_text S so.events =
-      so.says ∙ ap (λ (l : List ℕ). l ++ all_text S so.events) first.text in
+      let printed : mid.printed ≡ all_printed S so.events =
+      so.says ∙ ap (λ (l : List Printed). l ++ all_printed S so.events) first in
       record {
         holds = so.stands;
-        silent = silent list heard;
-        knows = subst (λ (t : List ℕ). Knows next (tell (deliveries_among list) t (first_known number s.nodes))) text
-            (knows list (first_known number s.nodes) heard knew);
+        silent = silent;
+        knows = subst
+            (λ (l : List Printed). Knows next (tell (deliveries_among l) (texts_in s l) (first_known number s.nodes)))
+            printed (knows (first_known number s.nodes) knew);
       }
 
   -- what it has done then is what it has done in all

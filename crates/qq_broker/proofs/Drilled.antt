@@ -5,33 +5,26 @@ use Rattle.std.proofs.lemmas.List.Elements.{filter_map-append}
 use Rattle.qq_disk.specs.Facts.{DiskFacts}
 use Rattle.qq_script_lines.specs.declared.line.ScriptLine.{ScriptLine}
 use Rattle.qq_route.specs.declared.setup.Setup.{Setup}
-use Rattle.qq_taker.specs.Takers.{Takers}
 use Rattle.qq_taker.specs.declared.handed.Handed.{Handed}
-use Rattle.qq_taker.specs.declared.heard.Heard.{Heard}
 use Rattle.qq_drill.specs.Drill.{Drill}
-use Rattle.qq_cluster_model.specs.Cluster.{Cluster, ClusterEvent, Printed, Setup as ClusterSetup, all_prints, cluster_after, new_cluster}
+use Rattle.qq_cluster_model.specs.Cluster.{Cluster, ClusterEvent, Setup as ClusterSetup, all_prints, cluster_after, new_cluster}
+use Rattle.qq_cluster_model.specs.declared.printed.Printed.{Printed}
 use Rattle.qq_cluster_model.specs.Lines.{IsLine, IsScript}
-use Rattle.qq_cluster_model.specs.Outcome.{Outcome, all_heard, deliveries_among, heard_in, takers_after}
+use Rattle.qq_cluster_model.specs.Outcome.{Outcome, deliveries_among}
 use Rattle.qq_cluster_model.specs.Texts.{text_of}
 use Rattle.qq_cluster_run.proofs.Going.{after-both, prints-both, script-more, text-both}
 use Rattle.qq_cluster_run.proofs.Plays.{among-both, hear-both}
 use Rattle.qq_cluster_run.specs.Drilling.{AreParts, Known, begin_part, is_led, know, part_lines, tell}
 use Rattle.qq_cluster_run.specs.Playing.{Knows}
+use Rattle.qq_cluster_run.specs.Texts.{texts_in}
 use Rattle.qq_cluster_run.specs.Serving.{Run, after_all, cluster_in, setup_in}
 use Rattle.qq_cluster_run.specs.declared.drilling.Part.{Part}
 use Rattle.qq_cluster_run.specs.declared.playing.Play.{Play}
 use Rattle.qq_cluster.specs.declared.nodes.Nodes.{Nodes}
-use Rattle.qq_broker.specs.Drilling.{IsSilent, LinesServed, PartsDone, Plays, run_with}
+use Rattle.qq_broker.specs.Drilling.{LinesServed, PartsDone, Plays, run_with}
 use Rattle.qq_broker.specs.Lives.{Giving}
 use Rattle.qq_broker.specs.Nodes.{Holds}
 use Rattle.qq_broker.specs.Serving.{IsServed, with_events}
-
--- a law of clusters: who listens hears what is told
-abbrev pub Hears : Type 0
-Hears =
-    (setup : ClusterSetup) (c : Cluster) (events : List ClusterEvent) (all : Takers) (before : List Heard)
-    → all.heard ≡ Some before
-    → (takers_after setup c events all).heard ≡ Some (before ++ all_heard (all_prints setup c events))
 
 -- ---- what is known
 
@@ -51,21 +44,14 @@ tell-both a b t u k =
     known-is _ _ _ _ _ _ (hear-both a b k.drill) (append_assoc k.text t u)
     (add_assoc k.delivered (length a) (length b) ∙ ap (λ (n : ℕ). k.delivered + n) (sym (length-append a b)))
 
--- the deliveries that events have shown
-abbrev pub shown_in : List Printed → List Handed
-shown_in printed = deliveries_among (all_heard printed)
-
-shown-both : (a b : List Printed) → shown_in (a ++ b) ≡ shown_in a ++ shown_in b
-shown-both a b = ap deliveries_among (filter_map-append heard_in a b) ∙ among-both (all_heard a) (all_heard b)
-
 pub know-both : (S : ClusterSetup) (c : Cluster) (a b : List ClusterEvent) (k : Known)
     → know S (cluster_after c a) b (know S c a k) ≡ know S c (a ++ b) k
 know-both S c a b k =
     let d : Cluster = cluster_after c a in
-    tell-both (shown_in (all_prints S c a)) (shown_in (all_prints S d b)) (text_of S c a) (text_of S d b) k
+    tell-both (deliveries_among (all_prints S c a)) (deliveries_among (all_prints S d b)) (text_of S c a) (text_of S d b) k
     ∙ ap (λ (list : List Handed). tell list (text_of S c a ++ text_of S d b) k)
-    (sym (ap shown_in (prints-both S c a b) ∙ shown-both (all_prints S c a) (all_prints S d b)))
-    ∙ ap (λ (text : List ℕ). tell (shown_in (all_prints S c (a ++ b))) text k) (sym (text-both S c a b))
+    (sym (ap deliveries_among (prints-both S c a b) ∙ among-both (all_prints S c a) (all_prints S d b)))
+    ∙ ap (λ (text : List ℕ). tell (deliveries_among (all_prints S c (a ++ b))) text k) (sym (text-both S c a b))
 
 -- ---- one line
 
@@ -131,28 +117,25 @@ module _ {D : Type 0} (given : Giving D) (facts : DiskFacts D) (s : Setup) where
             (sym (know-none (setup_in s run) (cluster_in s run) k)) so);
       }
 
-  pub line-served : Hears → (run : Run) (line : ScriptLine) (k : Known) (old new : Nodes D) (before mid later : Outcome)
+  pub line-served : (run : Run) (line : ScriptLine) (k : Known) (old new : Nodes D) (before mid later : Outcome)
       (play next : Play) → Plays given facts s run old before play k → IsServed given facts s run line new before mid
-      → ((list : List Heard) → mid.takers.heard ≡ Some list → IsSilent later)
-      → ((list : List Heard) (x : Known) → mid.takers.heard ≡ Some list → Knows play x
-      → Knows next (tell (deliveries_among list) mid.text x))
+      → later.printed ≡ []
+      → ((x : Known) → Knows play x
+      → Knows next (tell (deliveries_among mid.printed) (texts_in s mid.printed) x))
       → LinesServed given facts s run (line ∷ []) k new later next
-  line-served hears run line k old new before mid later play next so served silent knows =
+  line-served run line k old new before mid later play next so served silent knows =
       let S : ClusterSetup = setup_in s run in
       let c : Cluster = cluster_in s run in
-      let list : List Heard = all_heard (all_prints S c served.more) in
-      let heard : mid.takers.heard ≡ Some list =
-      ap (λ (t : Takers). t.heard) served.sees ∙ hears S c served.more before.takers [] so.silent.heard in
-      let text : mid.text ≡ text_of S c served.more =
-      served.says ∙ ap (λ (l : List ℕ). l ++ text_of S c served.more) so.silent.text in
+      let printed : mid.printed ≡ all_prints S c served.more =
+      served.says ∙ ap (λ (l : List Printed). l ++ all_prints S c served.more) so.silent in
       record {
         more = served.more;
         allowed = alone-line S line c served.more served.allowed;
         plays = record {
           holds = holds-as new run (run.events ++ served.more) (run.lines + 1) served.stands;
-          silent = silent list heard;
-          knows = subst (λ (t : List ℕ). Knows next (tell (deliveries_among list) t k)) text
-              (knows list k heard so.knows);
+          silent = silent;
+          knows = subst (λ (l : List Printed). Knows next (tell (deliveries_among l) (texts_in s l) k)) printed
+              (knows k so.knows);
         };
       }
 

@@ -18,7 +18,7 @@ use Rattle.qq_entry.specs.declared.command.Unstamped.{Unstamped}
 use Rattle.qq_cluster_model.specs.Cluster.{Cluster, ClusterEvent, Setup, MutesEach, EndsEach, Sets, Alike, At, NodeWrites, NodeSyncs, Fails, Crashes, Shows, SaysDown, SaysNoSuch, SaysUnroutable, SaysBusy, SaysEnded, cluster_after, cluster_happens, members}
 use Rattle.qq_cluster_model.specs.Lines.{AndPumped, IsCopy, IsDeliver, IsDelivered, IsLine, IsLose, IsRouted, IsSend, WhereThere, WhereUp, nodes_of, publish_with, receiver_at}
 use Rattle.qq_cluster_model.specs.Queue.{Attaches, Copies, Delivers, Downs, Event, Fetches, Loses, Notices, Resends, Submits, TellsEnded, TellsNotTaken, Ticks}
-use Rattle.qq_cluster_model.specs.Rules.{ForEach, Is, IsClaimed, IsEmptied, IsEnd, IsFirstTick, IsFound, IsGiven, IsNodeRound, IsNotice, IsNothing, IsOpening, IsPump, IsPumped, IsResend, IsRestart, IsRound, IsSync, IsSynced, IsWrite, IsWritten, MayRoll, Pumps, Rule, Tells, Then, if_so, is_ended, is_idle, most_rounds, not_taken, some_queue, tick_at, waits_noticed, waits_synced, waits_written}
+use Rattle.qq_cluster_model.specs.Rules.{ForEach, Is, IsClaimed, IsEmptied, IsEnd, IsFirstTick, IsFound, IsGiven, IsNodeRound, IsNotice, IsNothing, IsOpening, IsPump, IsPumped, IsResend, IsRestart, IsRound, IsSync, IsSynced, IsWrite, IsWritten, MayRoll, Pumps, Rule, Follows, Then, if_so, is_ended, is_idle, most_rounds, not_taken, some_queue, tick_at, waits_noticed, waits_synced, waits_written}
 use Rattle.qq_cluster_model.proofs.Takerless.{AreAt, GivesNone, emptied-at, tells-at}
 use Rattle.qq_cluster_laws.proofs.Reached.{after-both}
 use Rattle.qq_cluster_laws.specs.Serves.{is_failure_at}
@@ -90,7 +90,7 @@ module _ (k : ℕ) where
   stops-at place c (At own event ∷ events) are = stops-at place (cluster_happens c (At own event)) events are.1
   stops-at place c (_ ∷ events) are = absurd are.0
 
-  stops-tells : (place : ℕ) (event : Event) → GivesNone event → AllStop (Tells place event)
+  stops-tells : (place : ℕ) (event : Event) → GivesNone event → AllStop (Follows place event)
   stops-tells place event none c events so = stops-at place c events (tells-at place event none c events so)
 
   -- ---- rules
@@ -147,7 +147,7 @@ module _ (k : ℕ) where
 
     stops-notice : (j place : ℕ) → AllStop (IsNotice j place)
     stops-notice j place c events so =
-        stops-if (c.up j && waits_noticed j (c.queue place)) (Tells place (Notices j)) IsNothing c events
+        stops-if (c.up j && waits_noticed j (c.queue place)) (Follows place (Notices j)) IsNothing c events
         (λ is. stops-tells place (Notices j) tt c events) (stops-none c events) so
 
     stops-node : (j : ℕ) → AllStop (IsNodeRound setup j)
@@ -206,7 +206,7 @@ module _ (k : ℕ) where
     stops-delivered : (place at : ℕ) (to : Option ℕ) → AllStop (IsDelivered place at to)
     stops-delivered place at None = stops-is SaysNoSuch calm
     stops-delivered place at (Some j) =
-        stops-then (Tells place (Delivers at)) (λ c. if_so (c.up j) IsNothing (Is (SaysDown j)) c)
+        stops-then (Follows place (Delivers at)) (λ c. if_so (c.up j) IsNothing (Is (SaysDown j)) c)
         (stops-tells place (Delivers at) tt)
         (λ c events so. stops-if (c.up j) IsNothing (Is (SaysDown j)) c events (λ up. stops-none c events)
         (stops-is (SaysDown j) calm c events) so)
@@ -231,11 +231,11 @@ module _ (k : ℕ) where
     stops-resend session c events so =
         stops-if (some_queue setup (is_ended session) c) (Is SaysEnded)
         (Then (ForEach setup.places (λ (place : ℕ). Is (At place (Resends session))))
-        (ForEach setup.places (λ (place : ℕ). Tells place (Fetches session)))) c events
+        (ForEach setup.places (λ (place : ℕ). Follows place (Fetches session)))) c events
         (λ is. stops-is SaysEnded calm c events)
         (stops-then (ForEach setup.places (λ (place : ℕ). Is (At place (Resends session))))
-        (ForEach setup.places (λ (place : ℕ). Tells place (Fetches session))) (stops-ats (Resends session))
-        (stops-each setup.places (λ (place : ℕ). Tells place (Fetches session))
+        (ForEach setup.places (λ (place : ℕ). Follows place (Fetches session))) (stops-ats (Resends session))
+        (stops-each setup.places (λ (place : ℕ). Follows place (Fetches session))
         (λ place. stops-tells place (Fetches session) tt)) c events) so
 
     stops-first : (place : ℕ) → AllStop (IsFirstTick setup place)
@@ -396,7 +396,7 @@ module _ (k : ℕ) where
         few c events (stops-where node.0 (IsSync setup node.0) (stops-sync node.0) c events so)
     line-once n are (lines.Notice node at) c events so =
         few c events
-        (stops-where node.0 (Tells at.0 (Notices node.0)) (stops-tells at.0 (Notices node.0) tt) c events so)
+        (stops-where node.0 (Follows at.0 (Notices node.0)) (stops-tells at.0 (Notices node.0) tt) c events so)
     line-once n are (lines.Tick node at) c events so =
         few c events
         (stops-where node.0 (Is (At at.0 (Ticks node.0))) (stops-is (At at.0 (Ticks node.0)) calm) c events so)

@@ -16,7 +16,7 @@ use Rattle.qq_cluster_model.specs.Cluster.{Cluster, ClusterEvent, Setup, EndsEac
 use Rattle.qq_cluster_model.specs.Lines.{AndPumped, IsCopy, IsDeliver, IsDelivered, IsLine, IsLose, IsRouted, IsRun, IsScript, IsSend, WhereThere, WhereUp, nodes_of, publish_with, receiver_at}
 use Rattle.qq_cluster_model.specs.Queue.{Attaches, Copies, Delivers, Downs, Event, Fetches, Judges, Loses, Notices, Resends, Submits, TellsEnded, TellsNotTaken, Ticks}
 use Rattle.qq_cluster_model.specs.Taking.{command_for}
-use Rattle.qq_cluster_model.specs.Rules.{ForEach, Is, IsClaimed, IsCommanded, IsEmptied, IsEnd, IsFirstTick, IsFound, IsGiven, IsJudgedWhere, IsNextJudged, IsNodeRound, IsNotice, IsNothing, IsOpening, IsPump, IsPumped, IsResend, IsRestart, IsRound, IsSync, IsSynced, IsTold, IsWrite, IsWritten, MayRoll, Pumps, Rule, Tells, Then, Times, if_so, is_ended, is_idle, may_find, most_rounds, not_taken, some_queue, tick_at, waits_noticed, waits_synced, waits_written}
+use Rattle.qq_cluster_model.specs.Rules.{ForEach, Is, IsClaimed, IsCommanded, IsEmptied, IsEnd, IsFirstTick, IsFound, IsGiven, IsJudgedWhere, IsNextJudged, IsNodeRound, IsNotice, IsNothing, IsOpening, IsPump, IsPumped, IsResend, IsRestart, IsRound, IsSync, IsSynced, IsTold, IsWrite, IsWritten, MayRoll, Pumps, Rule, Follows, Then, Times, if_so, is_ended, is_idle, may_find, most_rounds, not_taken, some_queue, tick_at, waits_noticed, waits_synced, waits_written}
 use Rattle.qq_cluster_laws.specs.Unseen.{touched}
 
 -- it gives such a taker to a consumer, or none
@@ -114,7 +114,7 @@ module _ (setup : Setup) (May : Image → Type 0) (MayGive : ℕ → Type 0) whe
       fair-times (length (c.queue place).untold) (IsNextJudged place)
       (λ d es next. fair-judged place (d.queue place).untold d es next) c events so
 
-  fair-tells : (place : ℕ) (event : Event) → (touched event ≡ None) × Gives MayGive event → AllFair (Tells place event)
+  fair-tells : (place : ℕ) (event : Event) → (touched event ≡ None) × Gives MayGive event → AllFair (Follows place event)
   fair-tells place event fair =
       fair-then (Is (At place event)) (IsTold place) (fair-is (At place event) (λ d. fair)) (fair-told place)
 
@@ -147,7 +147,7 @@ module _ (setup : Setup) (May : Image → Type 0) (MayGive : ℕ → Type 0) whe
 
   fair-notice : (j place : ℕ) → AllFair (IsNotice j place)
   fair-notice j place c events so =
-      fair-if (c.up j && waits_noticed j (c.queue place)) (Tells place (Notices j)) IsNothing
+      fair-if (c.up j && waits_noticed j (c.queue place)) (Follows place (Notices j)) IsNothing
       (fair-tells place (Notices j) (refl, tt)) fair-none c events so
 
   fair-node : (j : ℕ) → AllFair (IsNodeRound setup j)
@@ -160,7 +160,7 @@ module _ (setup : Setup) (May : Image → Type 0) (MayGive : ℕ → Type 0) whe
 
   fair-emptied : (place : ℕ) → AllFair (IsEmptied place)
   fair-emptied place c events so =
-      fair-times (length (c.queue place).group.bag) (Tells place (Delivers 0)) (fair-tells place (Delivers 0) (refl, tt)) c
+      fair-times (length (c.queue place).group.bag) (Follows place (Delivers 0)) (fair-tells place (Delivers 0) (refl, tt)) c
       events so
 
   fair-round : AllFair (IsRound setup)
@@ -198,10 +198,10 @@ module _ (setup : Setup) (May : Image → Type 0) (MayGive : ℕ → Type 0) whe
   fair-resend session c events so =
       fair-if (some_queue setup (is_ended session) c) (Is SaysEnded)
       (Then (ForEach setup.places (λ (place : ℕ). Is (At place (Resends session))))
-      (ForEach setup.places (λ (place : ℕ). Tells place (Fetches session)))) (fair-is SaysEnded (λ d. tt))
+      (ForEach setup.places (λ (place : ℕ). Follows place (Fetches session)))) (fair-is SaysEnded (λ d. tt))
       (fair-then (ForEach setup.places (λ (place : ℕ). Is (At place (Resends session))))
-      (ForEach setup.places (λ (place : ℕ). Tells place (Fetches session))) (fair-ats (Resends session) (refl, tt))
-      (fair-each setup.places (λ (place : ℕ). Tells place (Fetches session))
+      (ForEach setup.places (λ (place : ℕ). Follows place (Fetches session))) (fair-ats (Resends session) (refl, tt))
+      (fair-each setup.places (λ (place : ℕ). Follows place (Fetches session))
       (λ place. fair-tells place (Fetches session) (refl, tt)))) c events so
 
   -- ---- nodes, and messages on their way
@@ -212,7 +212,7 @@ module _ (setup : Setup) (May : Image → Type 0) (MayGive : ℕ → Type 0) whe
   fair-delivered : (place at : ℕ) (to : Option ℕ) → AllFair (IsDelivered place at to)
   fair-delivered place at None = fair-is SaysNoSuch (λ d. tt)
   fair-delivered place at (Some j) =
-      fair-then (Tells place (Delivers at)) (λ c. if_so (c.up j) IsNothing (Is (SaysDown j)) c)
+      fair-then (Follows place (Delivers at)) (λ c. if_so (c.up j) IsNothing (Is (SaysDown j)) c)
       (fair-tells place (Delivers at) (refl, tt))
       (λ c events so. fair-if (c.up j) IsNothing (Is (SaysDown j)) fair-none (fair-is (SaysDown j) (λ d. tt)) c events
       so)
@@ -300,7 +300,7 @@ module _ (setup : Setup) (May : Image → Type 0) (MayGive : ℕ → Type 0) whe
       fair-where node.0 (IsWrite setup node.0) (fair-write node.0) c events so
   fair-line (lines.Sync node) names c events so = fair-where node.0 (IsSync setup node.0) (fair-sync node.0) c events so
   fair-line (lines.Notice node at) names c events so =
-      fair-where node.0 (Tells at.0 (Notices node.0)) (fair-tells at.0 (Notices node.0) (refl, tt)) c events so
+      fair-where node.0 (Follows at.0 (Notices node.0)) (fair-tells at.0 (Notices node.0) (refl, tt)) c events so
   fair-line (lines.Tick node at) names c events so =
       fair-where node.0 (Is (At at.0 (Ticks node.0))) (fair-is (At at.0 (Ticks node.0)) (λ d. (refl, tt))) c events so
   fair-line (lines.Deliver at message) names c events so = fair-deliver at.0 message c events so

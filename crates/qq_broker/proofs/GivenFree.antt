@@ -11,6 +11,7 @@ use Rattle.qq_taker.specs.Takers.{Takers, is_free}
 use Rattle.qq_cluster_model.specs.Cluster.{At, Cluster, ClusterEvent, Setup as ClusterSetup, cluster_after, cluster_happens, new_cluster}
 use Rattle.qq_cluster_model.specs.Lines.{IsLine}
 use Rattle.qq_cluster_model.specs.Outcome.{Outcome, takers_after}
+use Rattle.qq_cluster_model.specs.declared.printed.Printed.{Printed}
 use Rattle.qq_cluster_model.specs.Queue.{Attaches, Event}
 use Rattle.qq_cluster_model.specs.Rules.{IsOpening}
 use Rattle.qq_cluster_model.proofs.Outcomes.{takers-both}
@@ -95,10 +96,10 @@ line-free setup line c events takers so free = other-line setup line c events ta
 
 module _ {D : Type 0} (given : Giving D) (facts : DiskFacts D) (s : Setup) (first : Takers) where
   -- an opening begins it
-  pub opened-all : (held : Nodes D) (text : List ℕ) (later : Outcome)
-      → HasOpened (Had given facts) s (Holds given facts s held) (record { text = text; takers = first }) later
+  pub opened-all : (held : Nodes D) (printed : List Printed) (later : Outcome)
+      → HasOpened (Had given facts) s (Holds given facts s held) (record { printed = printed; takers = first }) later
       → HasOpened (RunHad given facts first) s (HoldsAll given facts s first held later.takers)
-      (record { text = text; takers = first }) later
+      (record { printed = printed; takers = first }) later
   opened-all held text later so =
       let setup : ClusterSetup = cluster_over s so.logs in
       let gave = opening-free setup (new_cluster setup) so.events first so.allowed in

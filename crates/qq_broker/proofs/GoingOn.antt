@@ -330,7 +330,7 @@ module _ {D : Type 0} (given : Giving D) (facts : DiskFacts D) where
   crashed s run old new k image h happened leaves =
       let setup = setup_in s run in
       let c = cluster_in s run in
-      let so = (happened (record { text = []; takers = no_takers })).happened setup c (reached s run) h.stands in
+      let so = (happened (record { printed = []; takers = no_takers })).happened setup c (reached s run) h.stands in
       let st : Stands facts setup new (cluster_after c (Crashes k image ∷ [])) =
       subst (λ (l : List ClusterEvent). Stands facts setup new (cluster_after c l)) so.means so.stands in
       holds-more s run old new (Crashes k image ∷ []) run.lines h st (λ j there mid last was is restarted b. record {

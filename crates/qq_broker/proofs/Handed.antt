@@ -11,6 +11,7 @@ use Rattle.qq_raft_protocol.specs.Facts.{In}
 use Rattle.qq_route.specs.declared.setup.Setup.{Setup}
 use Rattle.qq_taker.specs.Takers.{Takers}
 use Rattle.qq_cluster_model.specs.Outcome.{Outcome}
+use Rattle.qq_cluster_model.specs.declared.printed.Printed.{Printed}
 use Rattle.qq_cluster_model.specs.Cluster.{ClusterEvent, Setup as ClusterSetup, cluster_after, new_cluster}
 use Rattle.qq_cluster_model.specs.ClusterLaws.{HasGroups}
 use Rattle.qq_cluster_laws.specs.Serves.{GivesUp, Seen, seen_of}
@@ -114,15 +115,15 @@ module _ {D : Type 0} (facts : DiskFacts D) where
       (subst (λ (n : ℕ). Rose (seen facts old (at + 1)).faults n) (ap (λ (v : Seen). v.faults) (still at last there))
       (rose at (slice_get_within disks at disk here)))
 
--- what was told over a text and takers that were lent
-pub told-so : (So : Outcome → Outcome → Type 0) (first later : Outcome) (text said : List ℕ) (before after : Takers)
-    → first ≡ record { text = text; takers = before } → text ≡ [] → said ≡ later.text → after ≡ later.takers
-    → So first later → So (record { text = []; takers = before }) (record { text = said; takers = after })
-told-so So first later text said before after is none told seen so =
-    let own : later ≡ record { text = said; takers = after } =
-    λ i. record { text = sym told i; takers = sym seen i } in
-    subst (So (record { text = []; takers = before })) own
-    (subst (λ (l : List ℕ). So (record { text = l; takers = before }) later) none
+-- what was told over a list and takers that were lent
+pub told-so : (So : Outcome → Outcome → Type 0) (first later : Outcome) (printed said : List Printed) (before after : Takers)
+    → first ≡ record { printed = printed; takers = before } → printed ≡ [] → said ≡ later.printed → after ≡ later.takers
+    → So first later → So (record { printed = []; takers = before }) (record { printed = said; takers = after })
+told-so So first later printed said before after is none told seen so =
+    let own : later ≡ record { printed = said; takers = after } =
+    λ i. record { printed = sym told i; takers = sym seen i } in
+    subst (So (record { printed = []; takers = before })) own
+    (subst (λ (l : List Printed). So (record { printed = l; takers = before }) later) none
     (subst (λ (o : Outcome). So o later) is so))
 
 -- ---- an opening

@@ -1,5 +1,6 @@
 -- What has become of a given disk, in words: at a crash, and where a call has failed.
 use Rattle.std.proofs.Common.{◌≡◌, ◌⊎◌, ◌≤◌, ◌<◌, ◌+◌, ◌-◌, ◌^◌, ℕ, true, List, [], ◌∷◌, ◌++◌, length, Option, inl, inr, refl, sym, ap, subst, ◌∙◌, append_assoc}
+use Rattle.std.specs.Option.{option_map}
 use Rattle.std.specs.Prelude.{IsTrue, filter}
 use Rattle.std.proofs.lemmas.Bool.{eq-eqb}
 use Rattle.qq_base.proofs.Lists.{In-append_cases, list_any-from_in}
@@ -12,7 +13,8 @@ use Rattle.qq_disk.specs.Image.{IsNewestLog, image_of}
 use Rattle.qq_disk.specs.Moments.{Adds}
 use Rattle.qq_raft_protocol.specs.Facts.{In}
 use Rattle.qq_raft_protocol.proofs.Lists.{In-map}
-use Rattle.qq_cluster_model.specs.Cluster.{Cluster, ClusterEvent, At, Crashes, Fails, Of, SaysBusy, SaysDown, SaysEnded, SaysNoSuch, SaysUnroutable, Setup, Shows, State, Stopped, all_prints, cluster_after, cluster_happens, members_in_order, new_cluster, prints, state_at}
+use Rattle.qq_cluster_model.specs.Cluster.{Cluster, ClusterEvent, At, Crashes, Fails, SaysBusy, SaysDown, SaysEnded, SaysNoSuch, SaysUnroutable, Setup, Shows, all_prints, cluster_after, cluster_happens, member_state, members_in_order, new_cluster, prints, state_at}
+use Rattle.qq_cluster_model.specs.declared.printed.Printed.TheVariants.{Of, State, Stopped}
 use Rattle.qq_cluster_model.specs.Queue.{said}
 use Rattle.qq_cluster_laws.specs.Linked.{IsLinked}
 use Rattle.qq_cluster_laws.specs.Restarts.{first_restart}
@@ -190,7 +192,8 @@ module _ {D : Type 0} (given : Giving D) (facts : DiskFacts D) (setup : Setup) (
     stopped-at c (Fails j) (inl same) = ap Fails (let e : k ≡ j = cc in e)
     stopped-at c (Shows place) there =
         let m = In-map (state_at c place) (Stopped k) (members_in_order setup place) there in
-        absurd (let e : Stopped k ≡ State place m.item ((c.queue place).group.seat m.item).server = m.is in cc)
+        absurd (let e : Stopped k
+        ≡ State place m.item (option_map member_state ((c.queue place).group.seat m.item).server) = m.is in cc)
     stopped-at c (SaysDown j) (inl same) = absurd cc
     stopped-at c SaysNoSuch (inl same) = absurd cc
     stopped-at c SaysUnroutable (inl same) = absurd cc

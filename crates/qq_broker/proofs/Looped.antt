@@ -1,5 +1,7 @@
 -- Lines are served one after another: what comes of them once the last answers are written.
-use Rattle.std.proofs.Common.{◌≡◌, ◌≤◌, ◌+◌, ℕ, List, [], Option, Some, None, sym, subst}
+use Rattle.std.proofs.Common.{◌≡◌, ◌≤◌, ◌+◌, ℕ, List, [], Option, Some, None, sym, subst, arith}
+use Rattle.std.proofs.KnownBytes.{Appends-nil}
+use Rattle.std.proofs.lemmas.Option.{IfSome_then}
 use Rattle.std.specs.Prelude.{IfSome}
 use Rattle.std.specs.Io.KnownBytes.{IsAtEnd}
 use Rattle.qq_disk.specs.Facts.{DiskFacts}
@@ -8,6 +10,7 @@ use Rattle.qq_ports.specs.Streams.{SinkState, Streams, Writes, WritesPart}
 use Rattle.qq_route.specs.declared.setup.Setup.{Setup}
 use Rattle.qq_taker.specs.Takers.{Takers}
 use Rattle.qq_cluster_model.specs.Outcome.{Outcome}
+use Rattle.qq_cluster_run.specs.Texts.{texts_in}
 use Rattle.qq_cluster_run.specs.declared.stop.AskStop.{AskStop}
 use Rattle.qq_cluster_run.specs.declared.stop.Stop.{Stop}
 use Rattle.qq_cluster_run.specs.Answers.{Answers, HasAnswerCause, IsServedToEnd}
@@ -51,6 +54,18 @@ module _ {D : Type 0} (given : Giving D) (facts : DiskFacts D) (first : Takers) 
     lines-break held takers own b until served pending piece so is part =
         waiting_breaks (All takers) s start.source.left own start until b so.run pending so.waits
         (subst (WritesPart b until.sink) is part) so.stands.seen
+
+    -- there is no memory for its text
+    pub lines-unprinted : (held : Nodes D) (takers : Takers) (own : List ℕ) (b : SinkState) (until : Streams)
+        (served : ℕ) (pending : List ℕ) → IsOn held takers (ahead own until.source.left) b served pending
+        → until.sink ≡ b
+        → IfSome start.source.left (λ bytes. BreaksOff (RunHad given facts first) s bytes start until [])
+    lines-unprinted held takers own b until served pending so same =
+        IfSome_then start.source.left
+        (waiting_breaks (All takers) s start.source.left own start until b so.run pending so.waits
+        (subst (λ (x : SinkState). WritesPart b x pending) (sym same) (0, omega arith, Appends-nil b.written))
+        so.stands.seen)
+        (λ bytes cut. cut.breaks)
 
     module _ (held : Nodes D) (takers : Takers) (now : Option (List ℕ)) (b : SinkState) (until : Streams) (served : ℕ)
         (pending piece : List ℕ) (so : IsOn held takers now b served pending) (is : piece ≡ pending)
@@ -107,9 +122,10 @@ module _ {D : Type 0} (given : Giving D) (facts : DiskFacts D) (first : Takers) 
 
       -- it is served
       pub lines-go-on : (new : Nodes D) (later : Takers) (next : Option (List ℕ)) (line : List ℕ)
-          (before after : Outcome) → LinesLead → TakesLine now next line → before.text ≡ []
+          (before after : Outcome) → LinesLead → TakesLine now next line → before.printed ≡ []
           → Answers (RunHad given facts first) s so.run (Some line)
-          (HoldsAll given facts s first new later) before after → IsOn new later next until.sink (served + 1) after.text
+          (HoldsAll given facts s first new later) before after → IsOn new later next until.sink (served + 1)
+          (texts_in s after.printed)
       lines-go-on new later next line before after law takes none answers =
           loops_line Disks s (HoldsAll given facts s first new later) start.source.left now next start.sink
           until.sink served so.run line before after law so.lines goes takes none answers

@@ -3,11 +3,12 @@ use Rattle.std.proofs.Common.{◌≡◌, ℕ, Bool, List, ◌++◌, ap, sym, sub
 use Rattle.qq_disk.specs.Facts.{DiskFacts}
 use Rattle.qq_script_lines.specs.declared.line.ScriptLine.{ScriptLine}
 use Rattle.qq_script_lines.specs.declared.line.ScriptLine.TheVariants.{Pump}
-use Rattle.qq_cluster_model.specs.Cluster.{Cluster, ClusterEvent, Setup as ClusterSetup}
+use Rattle.qq_cluster_model.specs.Cluster.{Cluster, ClusterEvent, Setup as ClusterSetup, all_prints}
 use Rattle.qq_taker.specs.Takers.{Takers}
 use Rattle.qq_cluster_model.specs.Lines.{IsLine}
 use Rattle.qq_cluster_model.specs.Outcome.{Outcome, takers_after}
-use Rattle.qq_cluster_model.specs.Texts.{text_of}
+use Rattle.qq_cluster_model.specs.declared.printed.Printed.{Printed}
+use Rattle.qq_cluster_run.specs.Texts.{texts_in}
 use Rattle.qq_cluster_model.specs.Rules.{IsPump, is_idle}
 use Rattle.qq_cluster_laws.specs.Linked.{IsReached}
 use Rattle.qq_cluster_run.specs.Serving.{Run, cluster_in, setup_in}
@@ -37,38 +38,43 @@ module _ {D : Type 0} (given : Giving D) (facts : DiskFacts D) (run : Run) where
         room = so.room;
       })
     where
-      as-new : record old { nodes = new.nodes; text = new.text } ≡ new
+      as-new : record old { nodes = new.nodes; printed = new.printed } ≡ new
       as-new = λ i. record {
         setup = sym same i;
         nodes = new.nodes;
-        text = new.text;
+        printed = new.printed;
         room = sym room i;
       }
 
   pub has-stepped : (old new : Broker D) (line : ScriptLine) (said : List ℕ) (before after : Takers)
-      (first later : Outcome) → Runs given facts old run → new.setup ≡ old.setup → new.room ≡ old.room
-      → first ≡ told_of old before → said ≡ later.text → after ≡ later.takers
-      → IsServed given facts old.setup run line new.nodes first later
+      (first later : Outcome) (printed : List Printed) → Runs given facts old run → new.setup ≡ old.setup
+      → new.room ≡ old.room → first ≡ told_of old before → printed ≡ later.printed → after ≡ later.takers
+      → said ≡ texts_in old.setup printed → IsServed given facts old.setup run line new.nodes first later
       → HasStepped given facts old new run line said before after
-  has-stepped old new line said before after first later so same room start is seen sv = record {
-    more = sv.more;
-    allowed = sv.allowed;
-    disks = sv.disks;
-    stands = runs-on old new (run_after run (run.events ++ sv.more)) so same room sv.stands;
-    says = is ∙ sv.says
-        ∙ ap (λ (o : Outcome). o.text ++ text_of (setup_in old.setup run) (cluster_in old.setup run) sv.more) start;
-    sees = seen ∙ sv.sees
-        ∙ ap (λ (o : Outcome). takers_after (setup_in old.setup run) (cluster_in old.setup run) sv.more o.takers) start;
+  has-stepped old new line said before after first later printed so same room start is seen says sv = record {
+    printed = printed;
+    served = record {
+      more = sv.more;
+      allowed = sv.allowed;
+      disks = sv.disks;
+      stands = runs-on old new (run_after run (run.events ++ sv.more)) so same room sv.stands;
+      says = is ∙ sv.says
+          ∙ ap (λ (o : Outcome). o.printed ++ all_prints (setup_in old.setup run) (cluster_in old.setup run) sv.more)
+          start;
+      sees = seen ∙ sv.sees
+          ∙ ap (λ (o : Outcome). takers_after (setup_in old.setup run) (cluster_in old.setup run) sv.more o.takers) start;
+    };
+    says = says;
   }
 
   pub has-pumped : (old new : Broker D) (before after : Takers) (first later : Outcome) (pumped : Pumped)
       (idle : Bool) → Runs given facts old run → new.setup ≡ old.setup → new.room ≡ old.room
-      → first ≡ told_of old before → new.text.items ≡ later.text → after ≡ later.takers
+      → first ≡ told_of old before → new.printed.items ≡ later.printed → after ≡ later.takers
       → Served facts IsPump old.nodes new.nodes first later → is_done pumped ≡ idle
       → ((setup : ClusterSetup) (c : Cluster) → IsReached setup c → Stands facts setup new.nodes c
       → idle ≡ is_idle setup c)
       → HasPumped given facts old new run before after pumped
-  has-pumped old new before after first later pumped idle so same room start text seen pumps done quiet =
+  has-pumped old new before after first later pumped idle so same room start printed seen pumps done quiet =
       let sv = served given facts old.setup run Pump IsPump old.nodes new.nodes first later so.holds
       (λ events allowed. pump-line (setup_in old.setup run) _ events allowed) pumps in
       let next : Run = run_after run (run.events ++ sv.more) in
@@ -80,8 +86,9 @@ module _ {D : Type 0} (given : Giving D) (facts : DiskFacts D) (run : Run) where
           runs-on old new next so same room sv.stands,
           done ∙ quiet (setup_in old.setup next) _ (reached given facts old.setup next) sv.stands.stands,
         );
-        says = text ∙ sv.says
-            ∙ ap (λ (o : Outcome). o.text ++ text_of (setup_in old.setup run) (cluster_in old.setup run) sv.more) start;
+        says = printed ∙ sv.says
+            ∙ ap (λ (o : Outcome). o.printed ++ all_prints (setup_in old.setup run) (cluster_in old.setup run) sv.more)
+            start;
         sees = seen ∙ sv.sees
             ∙ ap (λ (o : Outcome). takers_after (setup_in old.setup run) (cluster_in old.setup run) sv.more o.takers)
             start;

@@ -12,11 +12,11 @@ use Rattle.qq_taker.specs.Takers.{Takers}
 use Rattle.qq_defs.specs.Runnable.{IsRunnable}
 use Rattle.qq_route.specs.declared.setup.Setup.{Setup}
 use Rattle.qq_route.specs.Setup.{SetupState}
-use Rattle.qq_cluster_model.specs.Cluster.{Cluster, ClusterEvent, Setup as ClusterSetup, cluster_after}
+use Rattle.qq_cluster_model.specs.Cluster.{Cluster, ClusterEvent, Setup as ClusterSetup, all_prints, cluster_after}
 use Rattle.qq_cluster_model.specs.Queue.{Queue}
 use Rattle.qq_cluster_model.specs.Rules.{IsOpening, is_idle}
 use Rattle.qq_cluster_model.specs.Outcome.{Outcome, takers_after}
-use Rattle.qq_cluster_model.specs.Texts.{text_of}
+use Rattle.qq_cluster_model.specs.declared.printed.Printed.{Printed}
 use Rattle.qq_cluster_laws.specs.Restarts.{first_restart}
 use Rattle.qq_cluster_laws.specs.Serves.{GivesUp, Seen, seen_of}
 use Rattle.qq_cluster_run.specs.declared.stop.AskStop.{AskStop}
@@ -24,6 +24,7 @@ use Rattle.qq_cluster_run.specs.declared.stop.AskStop.TheVariants.{Ended, NoMemo
 use Rattle.qq_cluster_run.specs.Service.{HasServed}
 use Rattle.qq_cluster_run.specs.Serving.{EndsDamaged, EndsLost, EndsSpent, Histories, Run, after_all, setup_in}
 use Rattle.qq_cluster_run.specs.Setup.{cluster_of}
+use Rattle.qq_cluster_run.specs.Texts.{texts_in}
 use Rattle.qq_cluster_run.specs.Troubles.{Trouble}
 use Rattle.qq_cluster.specs.Disks.{GiveDisks}
 use Rattle.qq_cluster.specs.Nodes.{Stands}
@@ -54,15 +55,17 @@ pub record Runs {D : Type 0} (given : Giving D) (facts : DiskFacts D) (b : Broke
 
 -- what a broker has printed that isn't handed out yet, and the takers that it is called with
 abbrev pub told_of : {D : Type 0} → Broker D → Takers → Outcome
-told_of b takers = record { text = b.text.items; takers = takers }
+told_of b takers = record { printed = b.printed.items; takers = takers }
 
--- a line was served, takers saw what it shows, and all is handed out that was printed since text was handed out last
-abbrev pub HasStepped : {D : Type 0} → Giving D → DiskFacts D → Broker D → Broker D → Run
-    → ScriptLine → List ℕ → (before later : Takers) → Type 0
-HasStepped given facts old new run line said before later =
-    HasServed (Had given facts) (setup_in old.setup run) run.events line
-    (λ events. Runs given facts new (run_after run events)) (told_of old before)
-    (record { text = said; takers = later })
+-- A line was served, and takers saw what it shows. The text of all that was printed since text was handed out last is
+-- handed out.
+pub record HasStepped {D : Type 0} (given : Giving D) (facts : DiskFacts D) (old new : Broker D) (run : Run)
+    (line : ScriptLine) (said : List ℕ) (before later : Takers) : Type 0 where
+  pub printed : List Printed
+  pub served : HasServed (Had given facts) (setup_in old.setup run) run.events line
+      (λ events. Runs given facts new (run_after run events)) (told_of old before)
+      (record { printed = printed; takers = later })
+  pub says : said ≡ texts_in old.setup printed
 
 -- whether a pump has left nothing to do
 abbrev pub is_done : Pumped → Bool
@@ -161,7 +164,7 @@ pub record HasReopened (had : Histories) (setup : ClusterSetup) (events : List C
   pub allowed : IsReopening true setup (after_all setup events) more
   pub disks : had setup (events ++ more)
   pub stands : Stands (events ++ more)
-  pub says : later.text ≡ before.text ++ text_of setup (after_all setup events) more
+  pub says : later.printed ≡ before.printed ++ all_prints setup (after_all setup events) more
   pub sees : later.takers ≡ takers_after setup (after_all setup events) more before.takers
 
 -- why it doesn't, after these events

@@ -1,5 +1,5 @@
--- A call of a client's command: what happens in it, and its answer, which is what is heard of that.
-use Rattle.std.specs.Prelude.{◌≡◌, ℕ, List, [], ◌∷◌, ◌++◌, Bool, not, Option, Some, None, Result, Ok, Err, filter, filter_map, nat_eq, if◌then◌else◌}
+-- A call of a client's command: what happens in it, and its answer, which is what is printed in it, sorted.
+use Rattle.std.specs.Prelude.{◌≡◌, ℕ, List, [], ◌∷◌, ◌++◌, Bool, true, false, not, ◌&&◌, Option, Some, None, filter, filter_map, nat_eq, if◌then◌else◌}
 use Rattle.qq_base.specs.declared.ids.QueueId.{QueueId}
 use Rattle.qq_base.specs.declared.ids.SessionId.{SessionId}
 use Rattle.qq_base.specs.declared.memory.Memory.{Memory}
@@ -8,17 +8,17 @@ use Rattle.qq_disk.specs.Facts.{DiskFacts}
 use Rattle.qq_entry.specs.declared.audit.AuditRow.{AuditRow}
 use Rattle.qq_entry.specs.declared.command.Unstamped.{Unstamped}
 use Rattle.qq_session.specs.Clients.{may_hand}
-use Rattle.qq_taker.specs.Takers.{Takers, take_heard}
+use Rattle.qq_session.specs.declared.shown.Shown.{Shown}
+use Rattle.qq_session.specs.declared.shown.Shown.TheVariants.{Answered, Delivered, HasEnded, NoLeader, NotTaken, WindowFull}
+use Rattle.qq_taker.specs.Takers.{Takers}
 use Rattle.qq_taker.specs.declared.handed.Handed.{Handed}
-use Rattle.qq_taker.specs.declared.heard.Heard.{Heard}
-use Rattle.qq_taker.specs.declared.heard.Refusal.{Refusal}
-use Rattle.qq_taker.specs.declared.heard.Refusal.TheVariants as refusals
-use Rattle.qq_taker.specs.declared.heard.What.{What}
-use Rattle.qq_taker.specs.declared.heard.What.TheVariants.{Answer, Refused}
 use Rattle.qq_cluster_model.specs.Cluster.{Cluster, ClusterEvent, Setup as ClusterSetup, all_prints, cluster_after}
-use Rattle.qq_cluster_model.specs.Outcome.{Outcome, all_heard, deliveries_among, takers_after}
+use Rattle.qq_cluster_model.specs.ClusterLaws.{shown_at}
+use Rattle.qq_cluster_model.specs.Outcome.{Outcome, delivery_shown, takers_after}
 use Rattle.qq_cluster_model.specs.Queue.{Queue, has_leader}
 use Rattle.qq_cluster_model.specs.Rules.{IsGiven, IsPump, Rule, Then, is_ended, is_idle, not_taken}
+use Rattle.qq_cluster_model.specs.declared.printed.Printed.{Printed}
+use Rattle.qq_cluster_model.specs.declared.printed.Printed.TheVariants.{Of}
 use Rattle.qq_cluster_laws.specs.Linked.{IsReached}
 use Rattle.qq_cluster_run.specs.Endings.{spent}
 use Rattle.qq_cluster_run.specs.Serving.{EndsSpent, Run, cluster_in, setup_in}
@@ -38,51 +38,51 @@ use Rattle.qq_broker.specs.declared.calling.Called.{Called}
 abbrev pub IsCall : ClusterSetup → (session : ℕ) → Unstamped → (place : ℕ) → Rule
 IsCall setup session body place = Then (IsGiven session body place) (IsPump setup)
 
--- ---- what is heard of it
+-- ---- what is printed in it
 
-abbrev pub heard_after : ClusterSetup → Cluster → List ClusterEvent → List Heard
-heard_after setup c events = all_heard (all_prints setup c events)
+-- what a queue shows in place of taking a command; where it takes that it shows nothing
+abbrev pub refused_in : List Printed → Option Shown
+refused_in [] = None
+refused_in (Of place shown ∷ more) = Some shown
+refused_in (_ ∷ more) = refused_in more
 
-abbrev pub is_heard_at : (place : ℕ) → Heard → Bool
-is_heard_at place h = nat_eq h.queue.0 place
+abbrev pub row_shown : Shown → Option AuditRow
+row_shown (Answered row) = Some row
+row_shown _ = None
 
-abbrev pub row_told : What → Option AuditRow
-row_told (Answer row) = Some row
-row_told _ = None
+-- the answers that a queue shows, and its deliveries to consumers without a taker
+abbrev pub rows_shown : (place : ℕ) → List Printed → List AuditRow
+rows_shown place printed = filter_map row_shown (shown_at place printed)
 
--- the answers that a queue shows, its deliveries to consumers without a taker, and what other queues show
-abbrev pub rows_heard : (place : ℕ) → List Heard → List AuditRow
-rows_heard place list = filter_map (λ (h : Heard). row_told h.what) (filter (is_heard_at place) list)
+abbrev pub handed_shown : (place : ℕ) → List Printed → List Handed
+handed_shown place printed = filter_map delivery_shown (shown_at place printed)
 
-abbrev pub handed_heard : (place : ℕ) → List Heard → List Handed
-handed_heard place list = deliveries_among (filter (is_heard_at place) list)
+-- one of these
+abbrev pub is_answer : Shown → Bool
+is_answer (Answered row) = true
+is_answer (Delivered consumer delivery) = true
+is_answer _ = false
 
-abbrev pub others_heard : (place : ℕ) → List Heard → List Heard
-others_heard place list = filter (λ (h : Heard). not (is_heard_at place h)) list
+abbrev pub is_answer_at : (place : ℕ) → Printed → Bool
+is_answer_at place (Of own shown) = nat_eq own place && is_answer shown
+is_answer_at place _ = false
 
--- it is heard that a command wasn't given
-abbrev pub refused_or : Result (Unit {0}) Refusal → What → Result (Unit {0}) Refusal
-refused_or else' (Refused session why) = Err why
-refused_or else' _ = else'
-
--- a command was given, unless it is heard that it wasn't
-abbrev pub outcome_heard : List Heard → Result (Unit {0}) Refusal
-outcome_heard [] = Ok tt
-outcome_heard (h ∷ more) = refused_or (outcome_heard more) h.what
+-- all else that is printed: of other queues, of takers and of nodes
+abbrev pub others_shown : (place : ℕ) → List Printed → List Printed
+others_shown place printed = filter (λ (p : Printed). not (is_answer_at place p)) printed
 
 -- ---- the answer
 
--- A call is answered by what is heard as the command is given, and then in the pump.
+-- A call is answered by what is printed as the command is given, and then in the pump.
 pub record Answers (setup : ClusterSetup) (c : Cluster) (place : ℕ) (early late : List ClusterEvent) (called : Called)
     : Type 0 where
-  pub outcome : called.outcome ≡ outcome_heard (heard_after setup c early)
-  pub rows : called.rows.items ≡ rows_heard place (heard_after setup (cluster_after c early) late)
-  pub effects : called.effects.items ≡ handed_heard place (heard_after setup (cluster_after c early) late)
-  pub others : called.others.items ≡ others_heard place (heard_after setup (cluster_after c early) late)
+  pub refused : called.refused ≡ refused_in (all_prints setup c early)
+  pub rows : called.rows.items ≡ rows_shown place (all_prints setup (cluster_after c early) late)
+  pub effects : called.effects.items ≡ handed_shown place (all_prints setup (cluster_after c early) late)
+  pub others : called.others.items ≡ others_shown place (all_prints setup (cluster_after c early) late)
   pub idle : is_done called.pumped ≡ is_idle setup (cluster_after (cluster_after c early) late)
 
--- A broker was called: what happened is what a call allows, and it is answered so. Takers have seen what it shows, and
--- who listened to them before has heard nothing of it.
+-- A broker was called: what happened is what a call allows, and it is answered so. Takers have seen what it shows.
 pub record HasCalled {D : Type 0} (given : Giving D) (facts : DiskFacts D) (old new : Broker D) (run : Run)
     (session : SessionId) (queue : QueueId) (body : Unstamped) (before later : Takers)
     (called : Called) : Type 0 where
@@ -92,8 +92,7 @@ pub record HasCalled {D : Type 0} (given : Giving D) (facts : DiskFacts D) (old 
   pub runs : Runs given facts new (run_after run (run.events ++ more))
   pub answers :
       Answers (setup_in old.setup run) (cluster_in old.setup run) queue.0 allowed.early allowed.late called
-  pub held : later.held ≡ (takers_after (setup_in old.setup run) (cluster_in old.setup run) more before).held
-  pub heard : later.heard ≡ before.heard
+  pub sees : later ≡ takers_after (setup_in old.setup run) (cluster_in old.setup run) more before
 
 -- there was no memory, or in the midst of a call a number stands at its end
 abbrev pub IsCallGivenUp : (Trouble → Type 0) → ClusterSetup → List ClusterEvent → (session : ℕ) → Unstamped
@@ -104,55 +103,53 @@ IsCallGivenUp met setup events session body place (Spent number) =
 
 -- ---- whether a command is given
 
-abbrev pub handed_to : Queue → (session : ℕ) → Result (Unit {0}) Refusal
-handed_to q session =
+-- one beyond the session's window isn't, and none where no leader is ready
+abbrev pub refused_to : Queue → (session : ℕ) → Option Shown
+refused_to q session =
     if may_hand (q.clients session).numbers
-    then (if has_leader q then Ok tt else Err refusals.NoLeader) else Err refusals.WindowFull
+    then (if has_leader q then None else Some (NoLeader session)) else Some (WindowFull session)
 
-abbrev pub claimed_by : Option ℕ → Queue → (session : ℕ) → Result (Unit {0}) Refusal
-claimed_by (Some id) q session = Err (refusals.NotTaken id)
-claimed_by None q session = handed_to q session
+abbrev pub refused_by : Option ℕ → Queue → (session : ℕ) → Option Shown
+refused_by (Some id) q session = Some (NotTaken session id)
+refused_by None q session = refused_to q session
 
 -- A session that has ended gives no command, and none gives one for a delivery that wasn't handed out, or one beyond
 -- its window. Each other command is given where a leader is ready.
-abbrev pub outcome_at : Queue → (session : ℕ) → Unstamped → Result (Unit {0}) Refusal
-outcome_at q session body =
-    if is_ended session q then Err refusals.Ended else claimed_by (not_taken session body q) q session
+abbrev pub refused_at : Queue → (session : ℕ) → Unstamped → Option Shown
+refused_at q session body =
+    if is_ended session q then Some (HasEnded session) else refused_by (not_taken session body q) q session
 
 -- ---- the parts of a call
 
--- nodes did what a rule allows, and what was heard of it was taken out
-pub record Hears {D : Type 0} (facts : DiskFacts D) (Allows : ClusterSetup → Cluster → List ClusterEvent → Type 0)
-    (old new : Nodes D) (before later : Outcome)
-    (list : List Heard) : Type 0 where
-  pub told : Outcome
-  pub served : Served facts Allows old new before told
-  pub heard : (all : List Heard) → told.takers.heard ≡ Some all → list ≡ all
-  pub taken : later ≡ record told { takers = take_heard told.takers }
-
--- what is heard was added where it belongs
-pub record Sorts (place : ℕ) (list : List Heard) (old new : Called) : Type 0 where
-  pub rows : new.rows.items ≡ old.rows.items ++ rows_heard place list
-  pub effects : new.effects.items ≡ old.effects.items ++ handed_heard place list
-  pub others : new.others.items ≡ old.others.items ++ others_heard place list
-  pub outcome : new.outcome ≡ old.outcome
+-- what is printed was added where it belongs
+pub record Sorts (place : ℕ) (printed : List Printed) (old new : Called) : Type 0 where
+  pub rows : new.rows.items ≡ old.rows.items ++ rows_shown place printed
+  pub effects : new.effects.items ≡ old.effects.items ++ handed_shown place printed
+  pub others : new.others.items ≡ old.others.items ++ others_shown place printed
+  pub refused : new.refused ≡ old.refused
   pub pumped : new.pumped ≡ old.pumped
 
--- nodes were given a command, and pumped, and this is what was heard of both
-pub record HearsCall {D : Type 0} (facts : DiskFacts D) (session : ℕ) (body : Unstamped) (place : ℕ) (old new : Nodes D)
+-- what is printed in a pump was sorted
+pub record IsSorted (place : ℕ) (printed : List Printed) (called : Called) : Type 0 where
+  pub rows : called.rows.items ≡ rows_shown place printed
+  pub effects : called.effects.items ≡ handed_shown place printed
+  pub others : called.others.items ≡ others_shown place printed
+
+-- nodes were given a command, and pumped, and this is what was printed in both
+pub record CallsOver {D : Type 0} (facts : DiskFacts D) (session : ℕ) (body : Unstamped) (place : ℕ) (old new : Nodes D)
     (before later : Outcome) (called : Called) : Type 0 where
   pub mid : Nodes D
+  pub told : Outcome
   pub between : Outcome
-  pub asked : List Heard
-  pub list : List Heard
-  pub gives : Hears facts (λ setup. IsGiven session body place) old mid before between asked
-  pub pumps : Hears facts IsPump mid new between later list
+  pub last : Outcome
+  pub gives : Served facts (λ setup. IsGiven session body place) old mid before told
+  pub taken : between ≡ record told { printed = [] }
+  pub pumps : Served facts IsPump mid new between last
+  pub left : later ≡ record last { printed = [] }
   pub idle : (setup : ClusterSetup) (c : Cluster) → IsReached setup c → Stands facts setup new c
       → is_done called.pumped ≡ is_idle setup c
-  pub outcome : called.outcome ≡ outcome_heard asked
-  pub rows : called.rows.items ≡ rows_heard place list
-  pub effects : called.effects.items ≡ handed_heard place list
-  pub others : called.others.items ≡ others_heard place list
+  pub refused : called.refused ≡ refused_in told.printed
+  pub sorted : IsSorted place last.printed called
 
 -- there was no memory, or nodes have a number at its end in the midst of a call
 abbrev pub StopsCall : {D : Type 0} → DiskFacts D → (session : ℕ) → Unstamped

@@ -20,16 +20,11 @@ use Rattle.qq_broker.specs.Lives.{Giving}
 use Rattle.qq_broker.specs.Nodes.{Had, Holds, Meets}
 use Rattle.qq_broker.specs.Serving.{with_events}
 
--- all that was told was taken, and somebody listens
-pub record IsSilent (told : Outcome) : Type 0 where
-  pub text : told.text ≡ []
-  pub heard : told.takers.heard ≡ Some []
-
--- Nodes stand for a run, nothing that it told is left, and this is known of its drill.
+-- Nodes stand for a run, nothing that it printed is left, and this is known of its drill.
 pub record Plays {D : Type 0} (given : Giving D) (facts : DiskFacts D) (s : Setup) (run : Run) (held : Nodes D)
     (told : Outcome) (play : Play) (k : Known) : Type 0 where
   pub holds : Holds given facts s held run
-  pub silent : IsSilent told
+  pub silent : told.printed ≡ []
   pub knows : Knows play k
 
 -- the run with these events more

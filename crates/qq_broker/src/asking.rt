@@ -142,7 +142,7 @@ pub fn ask<D: NodeDisk, T: Taker>(
         ScriptLine::Deliver { queue, message } => nodes.deliver(alloc, queue, message, told),
         ScriptLine::Lose { queue, message } => nodes.lose(alloc, queue, message, told),
         ScriptLine::Copy { queue, message } => nodes.copy(alloc, queue, message, told),
-        ScriptLine::Show { queue } => nodes.show(alloc, queue, told),
+        ScriptLine::Show { queue } => nodes.show(queue, told),
         ScriptLine::Crash { .. } => Err(Memory::Want),
         ScriptLine::Restart { .. } => Err(Memory::Want),
     }

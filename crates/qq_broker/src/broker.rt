@@ -16,6 +16,7 @@ ghost use Rattle.qq_broker.specs.Serving.{IsGivenUp};
 
 use qq_base::{Memory, QueueId};
 use qq_cluster::{Nodes, Told};
+use qq_cluster_model::Printed;
 use qq_disk::NodeDisk;
 use qq_route::Setup;
 use qq_taker::{Desk, Taker};
@@ -31,7 +32,7 @@ pub struct Broker<D: NodeDisk> {
     pub(crate) setup: Setup,
     pub(crate) nodes: Nodes<D>,
     // What was printed, and not handed out yet.
-    pub(crate) text: Vec<u8>,
+    pub(crate) printed: Vec<Printed>,
     // The list in which the disks came, emptied: room for them.
     pub(crate) room: Vec<D>,
 }
@@ -75,9 +76,9 @@ impl<D: NodeDisk> Broker<D> {
             Runs given D.facts self.old run → IfErr result (IsGivenUp (Meets given D.facts 0 0)
             (setup_in self.old.setup run) run.events Pump) }
     {
-        let mut told = lend(alloc, &mut self.text, takers);
+        let mut told = lend(alloc, &mut self.printed, takers);
         let pumped = self.nodes.pump(alloc, &mut told);
-        give_back(told, &mut self.text, takers);
+        give_back(told, &mut self.printed, takers);
         match pumped {
             Ok(()) => {
                 let idle = self.nodes.is_idle();
@@ -103,33 +104,37 @@ impl<D: NodeDisk> Broker<D> {
         let Broker {
             setup,
             mut nodes,
-            text,
+            printed,
             mut room,
         } = self;
         drop(setup);
-        drop(text);
+        drop(printed);
         nodes.stop_each(alloc);
         nodes.take_disks(&mut room);
         (room, Audits { nodes })
     }
 }
 
-/// A broker's text and takers, lent to a call. It takes no memory.
-pub(crate) fn lend<T: Taker>(alloc: Global, text: &mut Vec<u8>, takers: &mut Desk<T>) -> Told<T>
-    ensures { result ≡ record { text = text.old.items; takers = takers.old } }
+/// What a broker has printed, and its takers, lent to a call. It takes no memory.
+pub(crate) fn lend<T: Taker>(
+    alloc: Global,
+    printed: &mut Vec<Printed>,
+    takers: &mut Desk<T>,
+) -> Told<T>
+    ensures { result ≡ record { printed = printed.old.items; takers = takers.old } }
 {
-    let text = mem::replace(text, Vec::new(alloc));
+    let printed = mem::replace(printed, Vec::new(alloc));
     let takers = mem::replace(takers, Desk::new(alloc));
-    Told::over(text, takers)
+    Told::over(printed, takers)
 }
 
 /// They are given back.
-pub(crate) fn give_back<T: Taker>(told: Told<T>, text: &mut Vec<u8>, takers: &mut Desk<T>)
-    ensures text { text.new.items ≡ told.text }
+pub(crate) fn give_back<T: Taker>(told: Told<T>, printed: &mut Vec<Printed>, takers: &mut Desk<T>)
+    ensures printed { printed.new.items ≡ told.printed }
     ensures takers { takers.new ≡ told.takers }
 {
     let (own, desk) = told.into_parts();
-    drop(mem::replace(text, own));
+    drop(mem::replace(printed, own));
     drop(mem::replace(takers, desk));
 }
 

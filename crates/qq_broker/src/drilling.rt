@@ -5,8 +5,8 @@ ghost use Rattle.qq_cluster_run.specs.Drilling.{Known, is_led, tell};
 ghost use Rattle.qq_cluster_run.specs.Drills.{StopsNext};
 ghost use Rattle.qq_cluster_run.specs.Playing.{Knows};
 ghost use Rattle.qq_cluster_run.specs.Serving.{Run, cluster_in, setup_in};
-ghost use Rattle.qq_taker.specs.declared.heard.Heard.{Heard};
-ghost use Rattle.qq_broker.specs.Drilling.{IsSilent, LinesServed, LinesStop, PartStops, PartsDone, PartsStop, Plays, ending_at};
+ghost use Rattle.qq_cluster_run.specs.Texts.{texts_in};
+ghost use Rattle.qq_broker.specs.Drilling.{LinesServed, LinesStop, PartStops, PartsDone, PartsStop, Plays, ending_at};
 ghost use Rattle.qq_broker.specs.Lives.{Giving};
 ghost use Rattle.qq_broker.specs.Nodes.{Holds, MayRun, Meets};
 
@@ -14,8 +14,7 @@ use crate::serving::serve_free;
 use crate::stopping::step_stop;
 use qq_base::Memory;
 use qq_cluster::{Nodes, Told};
-use qq_cluster_model::who_listens_hears_what_is_told;
-use qq_cluster_run::{AskStop, Part, Play, is_named, is_place};
+use qq_cluster_run::{AskStop, Part, Play, add_texts, is_named, is_place};
 use qq_disk::NodeDisk;
 use qq_ports::Yard;
 use qq_route::Setup;
@@ -23,24 +22,22 @@ use qq_script_lines::ScriptLine;
 use qq_taker::Taker;
 use std::alloc::Global;
 
-/// What was told goes to the drill.
+/// What was printed goes to the drill.
 pub(crate) fn tell<T: Taker>(
     alloc: Global,
+    setup: &Setup,
     told: &mut Told<T>,
     play: &mut Play,
 ) -> Result<(), Memory>
-    ensures silent { (list : List Heard) → told.old.takers.heard ≡ Some list →
-        OnOk result (IsSilent told.new) }
-    ensures ok { (list : List Heard) (k : Known) → told.old.takers.heard ≡ Some list →
-        Knows play.old k →
-        OnOk result (Knows play.new (tell (deliveries_among list) told.old.text k)) }
-    ensures want { IsOkUnless result Memory.Want }
+    requires { MayRun setup.now }
+    ensures silent { OnOk result (told.new.printed ≡ []) }
+    ensures ok { (k : Known) → Knows play.old k → OnOk result (Knows play.new
+        (tell (deliveries_among told.old.printed) (texts_in setup.now told.old.printed) k)) }
 {
-    let Some(heard) = told.take_heard(alloc) else {
-        return Err(Memory::Want);
-    };
-    let text = told.take_text(alloc);
-    play.tell(heard.as_slice(), text.as_slice())?;
+    let mut text = Vec::new(alloc);
+    add_texts(alloc, setup, told.printed(), &mut text)?;
+    play.tell(told.printed(), text.as_slice())?;
+    told.clear();
     Ok(())
 }
 
@@ -68,7 +65,6 @@ fn play_line<Y: Yard, T: Taker>(
         (ending_at stop)) }
     ensures later { Y.faults yard.old ≤ Y.faults yard.new }
 {
-    who_listens_hears_what_is_told();
     let named = is_named(setup, &line);
     if !named {
         drop(line);
@@ -77,7 +73,7 @@ fn play_line<Y: Yard, T: Taker>(
     if let Err(fault) = serve_free::<Y, T>(alloc, setup, nodes, yard, line, told) {
         return Err(step_stop(alloc, setup, 0, fault));
     }
-    match tell(alloc, told, play) {
+    match tell(alloc, setup, told, play) {
         Ok(()) => Ok(()),
         Err(_) => Err(AskStop::NoMemory),
     }

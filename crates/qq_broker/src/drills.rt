@@ -18,7 +18,6 @@ use crate::opening::open;
 use crate::program::close;
 use qq_base::Memory;
 use qq_cluster::{Nodes, Told};
-use qq_cluster_model::who_listens_hears_what_is_told;
 use qq_cluster_run::status::{DONE, WRITE_FAULT};
 use qq_cluster_run::{Ending, Part, Play, Stop, drill_setup, parts, summary};
 use qq_disk::NodeDisk;
@@ -163,10 +162,8 @@ fn open_drill<Y: Yard, T: Taker, O: Sink>(
     ensures sink_later { O.faults output.old ≤ O.faults output.new }
     ensures yard_later { Y.faults yard.old ≤ Y.faults yard.new }
 {
-    who_listens_hears_what_is_told();
     let mut play = play;
     let mut told = Told::new(alloc, Desk::<T>::new(alloc));
-    told.listen(alloc);
     let mut nodes = match open(alloc, setup, &None, yard, &mut told) {
         Ok(nodes) => nodes,
         Err(ending) => {
@@ -174,7 +171,7 @@ fn open_drill<Y: Yard, T: Taker, O: Sink>(
             return close(output, ending);
         }
     };
-    if let Err(_) = tell(alloc, &mut told, &mut play) {
+    if let Err(_) = tell(alloc, setup, &mut told, &mut play) {
         drop(nodes);
         drop(play);
         return close(output, Ending::no_memory());

@@ -27,8 +27,9 @@ mod taker_laws;
 
 pub use broker::{Audits, Broker, Pumped};
 pub use call_laws::{
-    a_call_answers_what_is_true, a_call_is_given_to_a_ready_leader,
-    a_call_is_the_line_of_its_command, a_worked_call_is_answered,
+    a_call_answers_all_that_is_printed, a_call_answers_what_is_true,
+    a_call_is_given_to_a_ready_leader, a_call_is_the_line_of_its_command,
+    a_worked_call_is_answered,
 };
 pub use calling::Called;
 pub use disk_laws::{

@@ -60,7 +60,7 @@ pub fn open_disks<D: NodeDisk, T: Taker>(
     requires whole { All (IsWhole D.facts) disks.items }
     ensures ok { IfOk result (λ broker. HasOpened
         (Had (ByHand disks.items) D.facts) setup (Runs (ByHand disks.items) D.facts broker)
-        (record { text = []; takers = takers.old }) (told_of broker takers.new)) }
+        (record { printed = []; takers = takers.old }) (told_of broker takers.new)) }
     ensures setup { IfOk result (λ broker. broker.setup ≡ setup) }
     ensures cause { IfErr result (λ refusal. MayNotOpen
         (Meets (ByHand disks.items) D.facts 0 0) setup
@@ -76,17 +76,17 @@ pub fn open_disks<D: NodeDisk, T: Taker>(
         Ok(nodes) => nodes,
         Err(memory) => return Err((OpenFault::Nodes(RestartFault::Memory(memory)), room)),
     };
-    let mut text = Vec::new(alloc);
-    let mut told = lend(alloc, &mut text, takers);
+    let mut printed = Vec::new(alloc);
+    let mut told = lend(alloc, &mut printed, takers);
     let opened = open_nodes(&mut nodes, alloc, &mut told);
-    give_back(told, &mut text, takers);
+    give_back(told, &mut printed, takers);
     match opened {
         Ok(some) => {
             if some {
                 return Ok(Broker {
                     setup,
                     nodes,
-                    text,
+                    printed,
                     room,
                 });
             }
@@ -120,7 +120,7 @@ pub fn reopen_disks<D: NodeDisk, T: Taker>(
         IfOk result (λ broker. HasReopened (Had given D.facts) (setup_in setup run)
         (crashed_events (setup_in setup run) run.events images)
         (λ events. Runs given D.facts broker (with_events run events))
-        (record { text = []; takers = takers.old }) (told_of broker takers.new)) }
+        (record { printed = []; takers = takers.old }) (told_of broker takers.new)) }
     ensures setup { IfOk result (λ broker. broker.setup ≡ setup) }
     ensures cause { (given : Giving D) (run : Run) (before : List D) (images : ℕ → Image) →
         Rests given D.facts (state_of setup) before audits run →
@@ -138,17 +138,17 @@ pub fn reopen_disks<D: NodeDisk, T: Taker>(
     let Audits { mut nodes } = audits;
     let mut room = disks;
     nodes.put_disks(&mut room);
-    let mut text = Vec::new(alloc);
-    let mut told = lend(alloc, &mut text, takers);
+    let mut printed = Vec::new(alloc);
+    let mut told = lend(alloc, &mut printed, takers);
     let opened = reopen_nodes(&mut nodes, alloc, &mut told);
-    give_back(told, &mut text, takers);
+    give_back(told, &mut printed, takers);
     match opened {
         Ok(some) => {
             if some {
                 return Ok(Broker {
                     setup,
                     nodes,
-                    text,
+                    printed,
                     room,
                 });
             }

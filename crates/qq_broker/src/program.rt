@@ -23,7 +23,8 @@ use qq_base::Text;
 use qq_cluster::{Nodes, Told};
 use qq_cluster_run::status::{DONE, WRITE_FAULT};
 use qq_cluster_run::{
-    AskStop, Ending, LINES_LIMIT, PrintFault, Stop, ask, refuse_long_line, set_up, write_made,
+    AskStop, Ending, LINES_LIMIT, PrintFault, Stop, add_texts, ask, refuse_long_line, set_up,
+    write_made,
 };
 use qq_ports::{LineFault, Lines, Shelf, Sink, Source, Yard, lines_law, next_line, write_all};
 use qq_route::Setup;
@@ -63,7 +64,7 @@ fn answer<Y: Yard, T: Taker>(
     }
 }
 
-// Serves the lines of the input to its end. What the nodes' opening has printed stands in the text. Each
+// Serves the lines of the input to its end. What the nodes' opening has printed isn't written yet. Each
 // answer is written before the next line is read: whoever types the script sees it.
 fn serve_lines<Y: Yard, T: Taker, I: Source, O: Sink>(
     alloc: Global,
@@ -78,10 +79,10 @@ fn serve_lines<Y: Yard, T: Taker, I: Source, O: Sink>(
     requires opened { (given : Giving Y.Disk) × ((first : Takers)
         × HasOpened (Had given Y.Disk.facts) setup.now
         (Holds given Y.Disk.facts setup.now nodes.old)
-        (record { text = []; takers = first }) told.old) }
+        (record { printed = []; takers = first }) told.old) }
     ensures ok { (given : Giving Y.Disk) (first : Takers) →
         HasOpened (Had given Y.Disk.facts) setup.now (Holds given Y.Disk.facts setup.now nodes.old)
-        (record { text = []; takers = first }) told.old →
+        (record { printed = []; takers = first }) told.old →
         OnOk result (IsServedToEnd
         (RunHad given Y.Disk.facts first) setup.now
         (HoldsAll given Y.Disk.facts setup.now first nodes.new told.new.takers)
@@ -89,7 +90,7 @@ fn serve_lines<Y: Yard, T: Taker, I: Source, O: Sink>(
         (streams I.left I.faults O.written O.faults input.new output.new)) }
     ensures cause { (given : Giving Y.Disk) (first : Takers) →
         HasOpened (Had given Y.Disk.facts) setup.now (Holds given Y.Disk.facts setup.now nodes.old)
-        (record { text = []; takers = first }) told.old →
+        (record { printed = []; takers = first }) told.old →
         IfErr result (λ stop. HasStopped stop setup.now
         (streams I.left I.faults O.written O.faults input.old output.old)
         (streams I.left I.faults O.written O.faults input.new output.new)
@@ -102,8 +103,13 @@ fn serve_lines<Y: Yard, T: Taker, I: Source, O: Sink>(
     lines_law();
     let mut lines = Lines::new();
     let mut served: u64 = 0;
+    let mut text = Vec::new(alloc);
     'lines: loop {
-        if let Err(_) = write_all(output, told.text()) {
+        text.clear();
+        if let Err(_) = add_texts(alloc, setup, told.printed(), &mut text) {
+            return Err(Stop::NoMemory);
+        }
+        if let Err(_) = write_all(output, text.as_slice()) {
             return Err(Stop::WriteFault);
         }
         told.clear();
@@ -138,16 +144,16 @@ fn serve_script<Y: Yard, T: Taker, I: Source, O: Sink>(
     requires opened { (given : Giving Y.Disk) × ((first : Takers)
         × HasOpened (Had given Y.Disk.facts) setup.now
         (Holds given Y.Disk.facts setup.now nodes.old)
-        (record { text = []; takers = first }) told.old) }
+        (record { printed = []; takers = first }) told.old) }
     ensures ok { (given : Giving Y.Disk) (first : Takers) →
         HasOpened (Had given Y.Disk.facts) setup.now (Holds given Y.Disk.facts setup.now nodes.old)
-        (record { text = []; takers = first }) told.old →
+        (record { printed = []; takers = first }) told.old →
         OnOk result (IsDone DONE (RunClaims given Y.Disk.facts first told.new.takers) setup.now
         (streams I.left I.faults O.written O.faults input.old output.old)
         (streams I.left I.faults O.written O.faults input.new output.new)) }
     ensures cause { (given : Giving Y.Disk) (first : Takers) →
         HasOpened (Had given Y.Disk.facts) setup.now (Holds given Y.Disk.facts setup.now nodes.old)
-        (record { text = []; takers = first }) told.old →
+        (record { printed = []; takers = first }) told.old →
         IfErr result (λ stop. HasStopped stop setup.now
         (streams I.left I.faults O.written O.faults input.old output.old)
         (streams I.left I.faults O.written O.faults input.new output.new)
@@ -194,7 +200,7 @@ fn open_told<Y: Yard, T: Taker, I: Source, O: Sink>(
     output: &mut O,
 ) -> u8
     requires may { MayRun setup.now }
-    requires empty { told.old.text ≡ [] }
+    requires empty { told.old.printed ≡ [] }
     ensures ends { HasRun result setup.now
         (streams I.left I.faults O.written O.faults input.old output.old)
         (streams I.left I.faults O.written O.faults input.new output.new)
@@ -215,7 +221,7 @@ fn open_told<Y: Yard, T: Taker, I: Source, O: Sink>(
     }
 }
 
-// The takers go with the text to where something is told.
+// The takers go to where something is told.
 fn open_script<Y: Yard, T: Taker, I: Source, O: Sink>(
     alloc: Global,
     setup: &Setup,
@@ -236,10 +242,10 @@ fn open_script<Y: Yard, T: Taker, I: Source, O: Sink>(
         (streams I.left I.faults O.written O.faults input.new output.new) }
     ensures yard_later { Y.faults yard.old ≤ Y.faults yard.new }
 {
-    let mut text = Vec::new(alloc);
-    let mut told = lend(alloc, &mut text, takers);
+    let mut printed = Vec::new(alloc);
+    let mut told = lend(alloc, &mut printed, takers);
     let status = open_told(alloc, setup, root, yard, &mut told, input, output);
-    give_back(told, &mut text, takers);
+    give_back(told, &mut printed, takers);
     status
 }
 

@@ -13,11 +13,12 @@ ghost use Rattle.qq_taker.specs.Takers.{Takers};
 use crate::broker::{Broker, give_back, lend};
 use crate::faults::StepFault;
 use crate::serving::serve;
+use qq_cluster_run::add_texts;
+use qq_opening::RestartFault;
 use qq_ports::Yard;
 use qq_script_lines::ScriptLine;
 use qq_taker::{Desk, Taker};
 use std::alloc::Global;
-use std::mem;
 
 /// Serves a line that names what is there, as each that `parse_line` gives for the broker's setup does, and answers
 /// what was printed since text was handed out last: that of an opening and of pumps, and then that of the line. What
@@ -42,7 +43,7 @@ pub fn step<Y: Yard, T: Taker>(
     ensures ok { (given : Giving Y.Disk) (run : Run) →
         Runs given Y.Disk.facts broker.old run → IfOk result (λ said. HasStepped given Y.Disk.facts
         broker.old broker.new run line said.items takers.old takers.new) }
-    ensures text { IfOk result (λ said. broker.new.text.items ≡ []) }
+    ensures text { IfOk result (λ said. broker.new.printed.items ≡ []) }
     ensures setup { broker.new.setup ≡ broker.old.setup }
     ensures free { OnOk result (AsksFree line takers.old) }
     ensures gone { IfErr result (λ fault. IsGoneCaused fault line takers.old) }
@@ -56,7 +57,7 @@ pub fn step<Y: Yard, T: Taker>(
         (step_stop broker.old.setup number fault)) }
     ensures later { Y.faults yard.old ≤ Y.faults yard.new }
 {
-    let mut told = lend(alloc, &mut broker.text, takers);
+    let mut told = lend(alloc, &mut broker.printed, takers);
     let served = serve::<Y, T>(
         alloc,
         &broker.setup,
@@ -65,9 +66,12 @@ pub fn step<Y: Yard, T: Taker>(
         line,
         &mut told,
     );
-    give_back(told, &mut broker.text, takers);
-    match served {
-        Ok(()) => Ok(mem::replace(&mut broker.text, Vec::new(alloc))),
-        Err(fault) => Err(fault),
+    give_back(told, &mut broker.printed, takers);
+    served?;
+    let mut text = Vec::new(alloc);
+    if let Err(memory) = add_texts(alloc, &broker.setup, broker.printed.as_slice(), &mut text) {
+        return Err(StepFault::Nodes(RestartFault::Memory(memory)));
     }
+    broker.printed.clear();
+    Ok(text)
 }

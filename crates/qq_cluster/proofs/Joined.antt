@@ -1,9 +1,8 @@
 -- Two calls, one after the other, where what was told may be changed in between.
 use Rattle.std.proofs.Common.{◌≡◌, ℕ, List, ◌++◌, refl, subst}
 use Rattle.qq_disk.specs.Facts.{DiskFacts}
-use Rattle.qq_cluster_model.specs.Cluster.{Cluster, ClusterEvent, Setup, cluster_after}
+use Rattle.qq_cluster_model.specs.Cluster.{Cluster, ClusterEvent, Setup, all_prints, cluster_after}
 use Rattle.qq_cluster_model.specs.Outcome.{Outcome, takers_after}
-use Rattle.qq_cluster_model.specs.Texts.{text_of}
 use Rattle.qq_cluster_laws.specs.Linked.{IsReached}
 use Rattle.qq_cluster_laws.specs.Serves.{Seen, Serves}
 use Rattle.qq_cluster_laws.proofs.Reached.{reached-after}
@@ -20,9 +19,9 @@ pub record Joined {D : Type 0} (facts : DiskFacts D) (First Second : Ruling) (ol
   pub late : List ClusterEvent
   pub first : First setup c early
   pub second : Second setup (cluster_after c early) late
-  pub says : middle.text ≡ before.text ++ text_of setup c early
+  pub says : middle.printed ≡ before.printed ++ all_prints setup c early
   pub sees : middle.takers ≡ takers_after setup c early before.takers
-  pub then_says : later.text ≡ other.text ++ text_of setup (cluster_after c early) late
+  pub then_says : later.printed ≡ other.printed ++ all_prints setup (cluster_after c early) late
   pub then_sees : later.takers ≡ takers_after setup (cluster_after c early) late other.takers
   pub serves : Serves setup c (λ (events : List ClusterEvent). events ≡ early ++ late) (Stands facts setup new)
       (seen facts old) (seen facts new) before (outcome_after setup c (early ++ late) before)

@@ -27,7 +27,7 @@ use Rattle.qq_cluster.proofs.Stands.{served-still, served-weaker}
 -- the queue at an index
 pub judged-at : (claim : Option Claim) (sessions : Standings) (at : ℕ) (olds : List ClusterQueue) (d new : ClusterQueue)
     (before after : Outcome) → at < length olds → AreSound new.group → IsSameQueue (get_or olds at d) new
-    → HasJudged (nat_eq at 0) sessions (get_or olds at d).untold (get_or olds at d) new before after claim
+    → HasJudged sessions (get_or olds at d).untold (get_or olds at d) new before after claim
     → JudgesAt claim sessions at olds (slice_set olds at new) before after
 judged-at claim sessions at olds d new before after lt sound same judged = record {
   old = get_or olds at d;
@@ -100,7 +100,7 @@ module _ {D : Type 0} {facts : DiskFacts D} where
       waits untold is setup c st = sym is ∙ sym (st.queues at judges.old judges.here).stands.untold
 
       by : (untold : List Handed) → judges.old.untold ≡ untold
-          → HasJudged (nat_eq at 0) (standings old.sessions) untold judges.old judges.new before later claim
+          → HasJudged (standings old.sessions) untold judges.old judges.new before later claim
           → Served facts (λ setup. IsClaimedBy claim (at + 1)) old new before later
       by [] is none =
           subst (λ (o : Outcome). Served facts (λ setup. IsClaimedBy claim (at + 1)) old new before o) (sym none.1)

@@ -17,7 +17,7 @@ use Rattle.qq_raft_protocol.specs.Facts.{In}
 use Rattle.qq_cluster_model.specs.Cluster.{At, Cluster, ClusterEvent, SaysDown, SaysNoSuch, Setup, members}
 use Rattle.qq_cluster_model.specs.Lines.{IsCopy, IsDeliver, IsDelivered, IsLose, WhereThere, receiver_at}
 use Rattle.qq_cluster_model.specs.Queue.{Copies, Delivers, Event, Loses, receiver_by}
-use Rattle.qq_cluster_model.specs.Rules.{Is, IsNothing, Tells, if_so}
+use Rattle.qq_cluster_model.specs.Rules.{Is, IsNothing, Follows, if_so}
 use Rattle.qq_cluster_laws.specs.Linked.{IsReached}
 use Rattle.qq_cluster_laws.proofs.Reached.{group-made, made}
 use Rattle.qq_queue.specs.Members.{number_of}
@@ -172,7 +172,7 @@ module _ {D : Type 0} {facts : DiskFacts D} where
 
   pub delivered-up : (place at : ℕ) (node : NodeId) {old mid : Held D} {before middle : Outcome}
       → ((setup : Setup) (c : Cluster) → Stands facts setup mid c → true ≡ c.up node.0)
-      → Served facts (λ setup. Tells place (Delivers at)) old mid before middle
+      → Served facts (λ setup. Follows place (Delivers at)) old mid before middle
       → Served facts (λ setup. IsDelivered place at (Some node.0)) old mid before middle
   delivered-up place at node {mid = mid} {middle = middle} up served =
       served-then served
@@ -181,7 +181,7 @@ module _ {D : Type 0} {facts : DiskFacts D} where
 
   pub delivered-down : (place at : ℕ) (node : NodeId) {old mid new : Held D} {before middle later : Outcome}
       → ((setup : Setup) (c : Cluster) → Stands facts setup mid c → false ≡ c.up node.0)
-      → Served facts (λ setup. Tells place (Delivers at)) old mid before middle
+      → Served facts (λ setup. Follows place (Delivers at)) old mid before middle
       → Served facts (λ setup. Is (SaysDown node.0)) mid new middle later
       → Served facts (λ setup. IsDelivered place at (Some node.0)) old new before later
   delivered-down place at node down first second =
@@ -191,7 +191,7 @@ module _ {D : Type 0} {facts : DiskFacts D} where
       (sym (down setup c st)) allowed))
 
   pub deliver-gave_up : (place at : ℕ) (node : NodeId) {old new : Held D} {memory : Memory}
-      → GaveUp facts (λ setup. Tells place (Delivers at)) old new memory
+      → GaveUp facts (λ setup. Follows place (Delivers at)) old new memory
       → GaveUp facts (λ setup. IsDelivered place at (Some node.0)) old new memory
   deliver-gave_up place at node given =
       gave_up-first {Second = λ setup c. if_so (c.up node.0) IsNothing (Is (SaysDown node.0)) c}
@@ -199,7 +199,7 @@ module _ {D : Type 0} {facts : DiskFacts D} where
       (total-is (SaysDown node.0) c)) given
 
   pub delivered-wants : (place at : ℕ) (node : NodeId) {old mid new : Held D} {before middle : Outcome} {memory : Memory}
-      → Served facts (λ setup. Tells place (Delivers at)) old mid before middle → new.nodes ≡ mid.nodes
+      → Served facts (λ setup. Follows place (Delivers at)) old mid before middle → new.nodes ≡ mid.nodes
       → memory ≡ Want → GaveUp facts (λ setup. IsDelivered place at (Some node.0)) old new memory
   delivered-wants place at node {mid = mid} {new = new} {memory = memory} first nodes want =
       gave_up-second {Second = λ setup c. if_so (c.up node.0) IsNothing (Is (SaysDown node.0)) c} first

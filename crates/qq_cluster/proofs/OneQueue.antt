@@ -7,13 +7,12 @@ use Rattle.std.proofs.lemmas.Option.{slice_get-get_or}
 use Rattle.qq_queue.specs.Members.{AreSound}
 use Rattle.qq_disk.specs.Facts.{DiskFacts}
 use Rattle.qq_lots.specs.Lots.{Parts}
-use Rattle.qq_session.specs.declared.shown.Shown.{Shown}
-use Rattle.qq_cluster_model.specs.Cluster.{At, Cluster, ClusterEvent, Of, Sets, Setup, cluster_happens}
-use Rattle.qq_cluster_model.specs.Outcome.{Outcome, sees_all}
+use Rattle.qq_cluster_model.specs.Cluster.{At, Cluster, ClusterEvent, Sets, Setup, cluster_happens}
+use Rattle.qq_cluster_model.specs.declared.printed.Printed.{Printed}
+use Rattle.qq_cluster_model.specs.declared.printed.Printed.TheVariants.{Of}
+use Rattle.qq_cluster_model.specs.Outcome.{Outcome}
 use Rattle.qq_cluster_model.specs.Queue.{Event, Queue, after, happens, said}
 use Rattle.qq_cluster_model.specs.Rules.{Is, IsNothing, is_quiet}
-use Rattle.qq_script.specs.Shown.{shown_text}
-use Rattle.qq_cluster_model.specs.Texts.{is_first, printed_text, shown_text_at, text_of}
 use Rattle.qq_cluster_model.proofs.Outcomes.{takers-at}
 use Rattle.qq_cluster_laws.specs.Linked.{lot_of, parts_at}
 use Rattle.qq_cluster_laws.specs.Unseen.{is_node, seen_by, sees, touched}
@@ -63,7 +62,7 @@ set-long (y ∷ ys) (suc at) x = ap suc (set-long ys at x)
 
 pub does-at : (event : Event) (sessions : Standings) (at : ℕ) (olds : List ClusterQueue) (d new : ClusterQueue)
     (before after : Outcome) → at < length olds → AreSound new.group → IsSameQueue (get_or olds at d) new
-    → Does (nat_eq at 0) event sessions (get_or olds at d) new before after
+    → Does event sessions (get_or olds at d) new before after
     → DoesAt event sessions at olds (slice_set olds at new) before after
 does-at event sessions at olds d new before after lt sound same does = record {
   old = get_or olds at d;
@@ -92,42 +91,15 @@ event-unseen (Judge verdict) = refl
 
 -- ---- what it shows
 
-shown-all : (setup : Setup) (place : ℕ) (all : List Shown)
-    → flat_map (shown_text (is_first setup place) (setup.name place)) all
-    ≡ flat_map (printed_text setup) (map (Of place) all)
-shown-all setup place [] = refl
-shown-all setup place (shown ∷ all) = ap (λ (l : List ℕ). shown_text_at setup place shown ++ l) (shown-all setup place all)
-
--- the first queue is the one at the first place
-pub first-at : (setup : Setup) (at : ℕ) → setup.first ≡ 1 → nat_eq at 0 ≡ is_first setup (at + 1)
-first-at setup at one = by at ∙ ap (nat_eq (at + 1)) (sym one)
-  where
-    by : (k : ℕ) → nat_eq k 0 ≡ nat_eq (k + 1) 1
-    by zero = refl
-    by (suc k) =
-        ne_eqb (suc k) 0 (λ e. absurd (omega (arith, e))) ∙ sym (ne_eqb (suc k + 1) 1 (λ e. absurd (omega (arith, e))))
-
-pub text-at : (setup : Setup) (sessions : Standings) (c : Cluster) (event : Event) (at : ℕ) (d : ClusterQueue)
-    → setup.first ≡ 1 → IsQueueOf setup sessions c (at + 1) d
-    → flat_map (shown_text (nat_eq at 0) d.name) (said (c.queue (at + 1)) event)
-    ≡ text_of setup c (At (at + 1) event ∷ [])
-text-at setup sessions c event at d one is =
-    ap (λ (b : Bool). flat_map (shown_text b d.name) (said (c.queue (at + 1)) event)) (first-at setup at one)
-    ∙ ap (λ (name : List ℕ). flat_map (shown_text (is_first setup (at + 1)) name) (said (c.queue (at + 1)) event))
-    is.name_is
-    ∙ shown-all setup (at + 1) (said (c.queue (at + 1)) event)
-    ∙ ap (flat_map (printed_text setup)) (sym (append-nil (map (Of (at + 1)) (said (c.queue (at + 1)) event))))
-
--- and what comes of it
 pub shows-at : (setup : Setup) (sessions : Standings) (c : Cluster) (event : Event) (at : ℕ) (d : ClusterQueue)
-    (before later : Outcome) → setup.first ≡ 1 → IsQueueOf setup sessions c (at + 1) d
-    → Shows (nat_eq at 0) d (said (c.queue (at + 1)) event) before later
-    → ShowsOne setup c (At (at + 1) event) before later
-shows-at setup sessions c event at d before later one is shows = record {
-  text = shows.text ∙ ap (λ (l : List ℕ). before.text ++ l) (text-at setup sessions c event at d one is);
-  takers = shows.takers
-      ∙ ap (λ (k : ℕ). sees_all k (said (c.queue (at + 1)) event) before.takers) is.place_is
-      ∙ sym (takers-at setup c (at + 1) event before.takers);
+    (before later : Outcome) → IsQueueOf setup sessions c (at + 1) d
+    → Shows d (said (c.queue (at + 1)) event) before later → ShowsOne setup c (At (at + 1) event) before later
+shows-at setup sessions c event at d before later is shows = record {
+  printed = shows.printed
+      ∙ ap (λ (k : ℕ). before.printed ++ map (Of k) (said (c.queue (at + 1)) event)) is.place_is
+      ∙ ap (λ (l : List Printed). before.printed ++ l)
+      (sym (append-nil (map (Of (at + 1)) (said (c.queue (at + 1)) event))));
+  takers = shows.takers ∙ sym (takers-at setup c (at + 1) event before.takers);
 }
 
 -- ---- the cluster after an event at one place
@@ -225,7 +197,7 @@ module _ {D : Type 0} {facts : DiskFacts D} where
       (λ setup c r st. (let was = st.queues at does.old does.here in (
         refl,
         stands-at setup c at event old new before later unseen active same does st,
-        shows-at setup (standings old.sessions) c event at does.old before later st.set_up.first was
+        shows-at setup (standings old.sessions) c event at does.old before later was
             (does.does (c.queue (at + 1)) was.stands).1,
       )))
 

@@ -120,7 +120,7 @@ module _ (setup : Setup) (c : Cluster) (k : ℕ) (events : List ClusterEvent) (a
       events = events;
       means = allowed;
       stands = stands;
-      says = ap (λ (o : Outcome). o.text) says;
+      says = ap (λ (o : Outcome). o.printed) says;
       sees = ap (λ (o : Outcome). o.takers) says;
       told = all-told;
       moments = all-traced IsLinked (λ d j e linked. linked) moments;

@@ -9,7 +9,7 @@ use Rattle.qq_raft_protocol.specs.Facts.{In}
 use Rattle.qq_cluster_model.specs.Cluster.{Cluster, ClusterEvent, SaysBusy, Setup, cluster_after}
 use Rattle.qq_cluster_model.specs.Laws.{CountsRise}
 use Rattle.qq_cluster_model.specs.Queue.{Delivers, Notices, Queue}
-use Rattle.qq_cluster_model.specs.Rules.{ForEach, Is, IsEmptied, IsNothing, IsNotice, IsPump, IsPumped, IsRound, Pumps, Tells, Then, Times, if_so, is_idle, is_quiet, is_quiet_at, most_rounds, waits_noticed}
+use Rattle.qq_cluster_model.specs.Rules.{ForEach, Is, IsEmptied, IsNothing, IsNotice, IsPump, IsPumped, IsRound, Pumps, Follows, Then, Times, if_so, is_idle, is_quiet, is_quiet_at, most_rounds, waits_noticed}
 use Rattle.qq_cluster_laws.specs.Linked.{IsReached}
 use Rattle.qq_cluster_laws.specs.Serves.{Leads}
 use Rattle.qq_cluster_laws.proofs.Reached.{counts-at, reached-after}
@@ -66,7 +66,7 @@ same-get (number ∷ numbers) (suc i) d e lt = same-get numbers i d e (omega (ar
 notice-passes_by : (k : ℕ) (setup : Setup) (c : Cluster) (place n : ℕ) → setup.nodes ≡ range_with_len 1 n → 1 ≤ k
     → k ≤ n → CountsRise (c.queue place) k → is_quiet setup c.up (c.queue place) ≡ true → IsNotice k place c []
 notice-passes_by k setup c place n nodes low high rise quiet =
-    rule-else (c.up k && waits_noticed k (c.queue place)) (Tells place (Notices k)) IsNothing c []
+    rule-else (c.up k && waits_noticed k (c.queue place)) (Follows place (Notices k)) IsNothing c []
     (quiet-noticed setup c.up (c.queue place) k
     (subst (In k) (sym nodes) (in-node k n low high)) rise quiet) refl
   where
@@ -78,7 +78,7 @@ notice-passes_by k setup c place n nodes low high rise quiet =
 emptied-passes_by : (setup : Setup) (c : Cluster) (place : ℕ) → is_quiet setup c.up (c.queue place) ≡ true
     → IsEmptied place c []
 emptied-passes_by setup c place quiet =
-    subst (λ (n : ℕ). Times n (Tells place (Delivers 0)) c []) (sym (quiet-bag setup c.up (c.queue place) quiet)) refl
+    subst (λ (n : ℕ). Times n (Follows place (Delivers 0)) c []) (sym (quiet-bag setup c.up (c.queue place) quiet)) refl
 
 -- ---- whether a queue is quiet
 
@@ -266,18 +266,18 @@ module _ {D : Type 0} {facts : DiskFacts D} where
       → Served facts (λ setup. IsNotice k (at + 1)) held held outcome outcome
   notices-nothing k at held outcome none =
       served-nothing held outcome
-      (λ setup c r st. rule-else (c.up k && waits_noticed k (c.queue (at + 1))) (Tells (at + 1) (Notices k)) IsNothing
+      (λ setup c r st. rule-else (c.up k && waits_noticed k (c.queue (at + 1))) (Follows (at + 1) (Notices k)) IsNothing
       c [] (none setup c r st) refl)
 
   pub notices : (k at : ℕ) {old new : Held D} {before later : Outcome}
       → ((setup : Setup) (c : Cluster) → IsReached setup c → Stands facts setup old c
       → (c.up k && waits_noticed k (c.queue (at + 1))) ≡ true)
-      → Served facts (λ setup. Tells (at + 1) (Notices k)) old new before later
+      → Served facts (λ setup. Follows (at + 1) (Notices k)) old new before later
       → Served facts (λ setup. IsNotice k (at + 1)) old new before later
   notices k at some served =
       served-weaker served
       (λ setup c events r st allowed. rule-if (c.up k && waits_noticed k (c.queue (at + 1)))
-      (Tells (at + 1) (Notices k)) IsNothing c events (some setup c r st) allowed)
+      (Follows (at + 1) (Notices k)) IsNothing c events (some setup c r st) allowed)
 
   -- ---- quiet queues
 
@@ -408,12 +408,12 @@ module _ {D : Type 0} {facts : DiskFacts D} where
   pub notice-gave_up : (k at : ℕ) {old new : Held D} {memory : Memory}
       → ((setup : Setup) (c : Cluster) → IsReached setup c → Stands facts setup old c
       → (c.up k && waits_noticed k (c.queue (at + 1))) ≡ true)
-      → GaveUp facts (λ setup. Tells (at + 1) (Notices k)) old new memory
+      → GaveUp facts (λ setup. Follows (at + 1) (Notices k)) old new memory
       → GaveUp facts (λ setup. IsNotice k (at + 1)) old new memory
   notice-gave_up k at some given =
       gave_up-weaker
       (λ setup c events r st allowed. rule-if (c.up k && waits_noticed k (c.queue (at + 1)))
-      (Tells (at + 1) (Notices k)) IsNothing c events (some setup c r st) allowed) given
+      (Follows (at + 1) (Notices k)) IsNothing c events (some setup c r st) allowed) given
 
   pub pump-gave_up : (left : ℕ) {old mid new : Held D} {before middle : Outcome} {memory : Memory}
       → Served facts (PumpLeads (suc left)) old mid before middle

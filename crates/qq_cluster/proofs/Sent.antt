@@ -11,7 +11,7 @@ use Rattle.qq_entry.specs.declared.command.Unstamped.{Unstamped}
 use Rattle.qq_cluster_model.specs.Cluster.{At, Cluster, ClusterEvent, SaysEnded, SaysUnroutable, Setup}
 use Rattle.qq_cluster_model.specs.Lines.{IsRouted}
 use Rattle.qq_cluster_model.specs.Queue.{Fetches, Resends}
-use Rattle.qq_cluster_model.specs.Rules.{ForEach, Is, IsGiven, IsResend, Tells, Then, is_ended, some_queue}
+use Rattle.qq_cluster_model.specs.Rules.{ForEach, Is, IsGiven, IsResend, Follows, Then, is_ended, some_queue}
 use Rattle.qq_queue.specs.Sessions.{standings}
 use Rattle.qq_cluster_model.specs.Outcome.{Outcome}
 use Rattle.qq_cluster.specs.Nodes.{CanServe, GaveUp, IsQueueAt, Served, Stands}
@@ -185,7 +185,7 @@ module _ {D : Type 0} {facts : DiskFacts D} where
       (ap (list_any (λ (place : ℕ). is_ended session (c.queue place)))
       (st.set_up.places ∙ ap (range_with_len 1) none))
       (subst (λ (l : List ℕ). Then (ForEach l (λ place. Is (At place (Resends session))))
-      (ForEach l (λ place. Tells place (Fetches session))) c [])
+      (ForEach l (λ place. Follows place (Fetches session))) c [])
       (sym (st.set_up.places ∙ ap (range_with_len 1) none))
       (record { early = []; late = []; is = refl; first = refl; second = refl })))
 

@@ -1,8 +1,9 @@
--- The lines of a queue's members.
+-- The states of a queue's members.
 use Rattle.std.proofs.Common.{◌≡◌, ◌≢◌, ◌⊎◌, ◌<◌, ◌≤◌, ◌+◌, ◌-◌, ℕ, Bool, true, false, cond, ◌||◌, ◌&&◌, List, [], ◌∷◌, ◌++◌, Option, Some, None, map, length, refl, sym, ap, ◌∙◌, subst, inl, inr, arith, append-nil}
 use Rattle.std.specs.Global.{Vec}
 use Rattle.std.specs.Prelude.{filter, is_some, nat_eq, slice_get}
 use Rattle.std.specs.List.{flat_map, list_any, range_with_len}
+use Rattle.std.specs.Option.{option_map}
 use Rattle.std.proofs.lemmas.Bool.{cases_eq, eq-eqb, ne_eqb}
 use Rattle.qq_base.specs.Causes.{SpentOnlyWhere}
 use Rattle.qq_base.specs.declared.ids.QueueId.{QueueId}
@@ -14,8 +15,10 @@ use Rattle.qq_model.specs.Audit.{stays_within}
 use Rattle.qq_model.specs.State.{empty_queue}
 use Rattle.qq_raft_model.specs.Group.{has_node}
 use Rattle.qq_raft_protocol.specs.Facts.{In}
-use Rattle.qq_cluster_model.specs.Cluster.{Cluster, Setup, Shows, members, members_in_order, state_at, Printed}
-use Rattle.qq_cluster_model.specs.Texts.{printed_text, state_line, text_of}
+use Rattle.qq_cluster_model.specs.Cluster.{Cluster, Setup, Shows, all_prints, member_state, members, members_in_order, state_at}
+use Rattle.qq_cluster_model.specs.declared.printed.Printed.{Printed}
+use Rattle.qq_cluster_model.specs.declared.printed.Printed.TheVariants.{State}
+use Rattle.qq_raft_msg.specs.declared.state.MemberState.{MemberState}
 use Rattle.qq_cluster_laws.specs.Linked.{lot_of}
 use Rattle.qq_lots.specs.Lots.{ids_of}
 use Rattle.qq_base.specs.declared.ids.NodeId.{NodeId}
@@ -29,7 +32,7 @@ use Rattle.qq_queue.specs.declared.cluster_queue.ClusterQueue.{ClusterQueue}
 use Rattle.qq_cluster_model.specs.Outcome.{Outcome, takers_after, sees_prints}
 use Rattle.qq_taker.specs.Takers.{Takers}
 use Rattle.qq_cluster.specs.Nodes.{IsQueueAt, IsQueueOf, Stands}
-use Rattle.qq_cluster.specs.Showing.{has_queue, member_text, with_line}
+use Rattle.qq_cluster.specs.Showing.{has_queue, member_at, with_printed}
 use Rattle.qq_cluster.specs.declared.node.Node.{Node}
 use Rattle.qq_cluster.specs.declared.nodes.Nodes.{Nodes as Held}
 use Rattle.qq_cluster.proofs.Walks.{in-range}
@@ -95,30 +98,27 @@ lot-has setup k place ids here =
     lot-any (λ (p : ℕ). has_node k (members setup p)) (λ (p : ℕ). (setup.args p).queue) place setup.places ids
     ∙ ap (λ (b : Bool). b && has_node k (members setup place)) (in-any place setup.places here)
 
--- ---- the lines
+-- ---- the states
 
-lines-step : (setup : Setup) (c : Cluster) (place k : ℕ) (nodes others : List ℕ) (b : Bool)
-    → flat_map (member_text setup c place) nodes ≡ flat_map (printed_text setup) (map (state_at c place) others)
-    → cond b (state_line (setup.name place) k ((c.queue place).group.seat k).server) []
-    ++ flat_map (member_text setup c place) nodes
-    ≡ flat_map (printed_text setup) (map (state_at c place) (cond b (k ∷ others) others))
-lines-step setup c place k nodes others true rest =
-    ap (λ (l : List ℕ). state_line (setup.name place) k ((c.queue place).group.seat k).server ++ l) rest
-lines-step setup c place k nodes others false rest = rest
+states-step : (setup : Setup) (c : Cluster) (place k : ℕ) (nodes others : List ℕ) (b : Bool)
+    → flat_map (member_at setup c place) nodes ≡ map (state_at c place) others
+    → cond b (state_at c place k ∷ []) [] ++ flat_map (member_at setup c place) nodes
+    ≡ map (state_at c place) (cond b (k ∷ others) others)
+states-step setup c place k nodes others true rest = ap (λ (l : List Printed). state_at c place k ∷ l) rest
+states-step setup c place k nodes others false rest = rest
 
-lines-of : (setup : Setup) (c : Cluster) (place : ℕ) (nodes : List ℕ)
-    → flat_map (member_text setup c place) nodes
-    ≡ flat_map (printed_text setup) (map (state_at c place) (filter (λ k. has_node k (members setup place)) nodes))
-lines-of setup c place [] = refl
-lines-of setup c place (k ∷ nodes) =
-    lines-step setup c place k nodes (filter (λ j. has_node j (members setup place)) nodes)
-    (has_node k (members setup place)) (lines-of setup c place nodes)
+states-of : (setup : Setup) (c : Cluster) (place : ℕ) (nodes : List ℕ)
+    → flat_map (member_at setup c place) nodes
+    ≡ map (state_at c place) (filter (λ k. has_node k (members setup place)) nodes)
+states-of setup c place [] = refl
+states-of setup c place (k ∷ nodes) =
+    states-step setup c place k nodes (filter (λ j. has_node j (members setup place)) nodes)
+    (has_node k (members setup place)) (states-of setup c place nodes)
 
-pub shows-text : (setup : Setup) (c : Cluster) (place : ℕ)
-    → flat_map (member_text setup c place) setup.nodes ≡ text_of setup c (Shows place ∷ [])
-shows-text setup c place =
-    lines-of setup c place setup.nodes
-    ∙ ap (flat_map (printed_text setup)) (sym (append-nil (map (state_at c place) (members_in_order setup place))))
+pub shows-printed : (setup : Setup) (c : Cluster) (place : ℕ)
+    → flat_map (member_at setup c place) setup.nodes ≡ all_prints setup c (Shows place ∷ [])
+shows-printed setup c place =
+    states-of setup c place setup.nodes ∙ sym (append-nil (map (state_at c place) (members_in_order setup place)))
 
 -- takers see nothing of it
 states-unseen : (c : Cluster) (place : ℕ) (nodes : List ℕ) (all : Takers)
@@ -132,16 +132,14 @@ shows-takers setup c place all =
     ap (λ (l : List Printed). sees_prints l all) (append-nil (map (state_at c place) (members_in_order setup place)))
     ∙ states-unseen c place (members_in_order setup place) all
 
--- a node that has no member of the queue shows nothing, and one that has it a line
+-- a node that has no member of the queue shows nothing, and one that has it its state
 pub shows-none : (setup : Setup) (c : Cluster) (place k : ℕ) → has_node k (members setup place) ≡ false
-    → member_text setup c place k ≡ []
-shows-none setup c place k none =
-    ap (λ (b : Bool). cond b (state_line (setup.name place) k ((c.queue place).group.seat k).server) []) none
+    → member_at setup c place k ≡ []
+shows-none setup c place k none = ap (λ (b : Bool). cond b (state_at c place k ∷ []) []) none
 
-pub shows-line : (setup : Setup) (c : Cluster) (place k : ℕ) → has_node k (members setup place) ≡ true
-    → member_text setup c place k ≡ state_line (setup.name place) k ((c.queue place).group.seat k).server
-shows-line setup c place k own =
-    ap (λ (b : Bool). cond b (state_line (setup.name place) k ((c.queue place).group.seat k).server) []) own
+pub shows-state : (setup : Setup) (c : Cluster) (place k : ℕ) → has_node k (members setup place) ≡ true
+    → member_at setup c place k ≡ state_at c place k ∷ []
+shows-state setup c place k own = ap (λ (b : Bool). cond b (state_at c place k ∷ []) []) own
 
 -- a node has a number
 pub some-number : (o : Option NodeId) → is_some (number_of o) ≡ is_some o
@@ -201,32 +199,33 @@ module _ {D : Type 0} {facts : DiskFacts D} where
       (in-range (length held.queues.items) (queue.0 - 1)
       (let low = is.0 in let high = is.1 in omega (arith, low, high)))))
 
-  -- the line of a member that is there
-  pub line-at : (held : Held D) (queue : QueueId) (node : NodeId) (at : ℕ) (x : ClusterQueue) (y : Node D)
-      (before later : Outcome) → IsQueueAt queue held → slice_get held.queues.items (queue.0 - 1) ≡ Some x
-      → slice_get held.nodes.items at ≡ Some y → has_queue queue.0 y.queues.items ≡ true
-      → ((setup : Setup) (c : Cluster) → Stands facts setup held c → node.0 ≡ at + 1) → OfItsQueue x (λ (q : Queue).
-      later ≡ with_line (state_line x.name node.0 (q.group.seat node.0).server) before)
+  -- the state of a member that is there
+  pub state-of : (held : Held D) (queue : QueueId) (node : NodeId) (at : ℕ) (x : ClusterQueue) (y : Node D)
+      (member : Option MemberState) (before later : Outcome) → IsQueueAt queue held
+      → slice_get held.queues.items (queue.0 - 1) ≡ Some x → slice_get held.nodes.items at ≡ Some y
+      → has_queue queue.0 y.queues.items ≡ true
+      → ((setup : Setup) (c : Cluster) → Stands facts setup held c → node.0 ≡ at + 1)
+      → OfItsQueue x (λ (q : Queue). member ≡ option_map member_state (q.group.seat node.0).server)
+      → later ≡ with_printed (State queue.0 node.0 member ∷ []) before
       → (setup : Setup) (c : Cluster) → Stands facts setup held c
-      → later ≡ with_line (member_text setup c queue.0 (at + 1)) before
-  line-at held queue node at x y before later is here there has number own setup c st =
+      → later ≡ with_printed (member_at setup c queue.0 (at + 1)) before
+  state-of held queue node at x y member before later is here there has number own said setup c st =
       let was : IsQueueOf setup (standings held.sessions) c queue.0 x = queue-was setup c held queue x is here st in
-      own (standings held.sessions) (c.queue queue.0) was.stands
-      ∙ ap (λ (name : List ℕ). with_line (state_line name node.0 ((c.queue queue.0).group.seat node.0).server) before)
-      was.name_is
-      ∙ ap (λ (k : ℕ). with_line (state_line (setup.name queue.0) k ((c.queue queue.0).group.seat k).server) before)
-      (number setup c st)
-      ∙ ap (λ (l : List ℕ). with_line l before)
-      (sym (shows-line setup c queue.0 (at + 1) (sym (member-told held queue at y is there setup c st) ∙ has)))
+      said
+      ∙ ap (λ (m : Option MemberState). with_printed (State queue.0 node.0 m ∷ []) before)
+      (own (standings held.sessions) (c.queue queue.0) was.stands)
+      ∙ ap (λ (k : ℕ). with_printed (state_at c queue.0 k ∷ []) before) (number setup c st)
+      ∙ ap (λ (l : List Printed). with_printed l before)
+      (sym (shows-state setup c queue.0 (at + 1) (sym (member-told held queue at y is there setup c st) ∙ has)))
 
   -- and nothing where there is none
   pub none-at : (held : Held D) (queue : QueueId) (at : ℕ) (y : Node D) (outcome : Outcome) → IsQueueAt queue held
       → slice_get held.nodes.items at ≡ Some y → has_queue queue.0 y.queues.items ≡ false
       → (setup : Setup) (c : Cluster) → Stands facts setup held c
-      → outcome ≡ with_line (member_text setup c queue.0 (at + 1)) outcome
+      → outcome ≡ with_printed (member_at setup c queue.0 (at + 1)) outcome
   none-at held queue at y outcome is there has setup c st =
       same-outcome outcome
-      ∙ ap (λ (l : List ℕ). with_line l outcome)
+      ∙ ap (λ (l : List Printed). with_printed l outcome)
       (sym (shows-none setup c queue.0 (at + 1) (sym (member-told held queue at y is there setup c st) ∙ has)))
 
   -- why there is none

@@ -1,8 +1,7 @@
 -- What a node's log was given is synced.
 use Rattle.std.proofs.Common.{◌≡◌, ◌<◌, ◌≤◌, ◌+◌, ◌-◌, ℕ, Bool, true, false, cond, List, [], ◌∷◌, ◌++◌, Some, length, refl, sym, ap, ◌∙◌, subst, inl, inr, arith}
-use Rattle.std.specs.Fmt.{decimal}
 use Rattle.std.specs.Global.{Vec}
-use Rattle.std.specs.Prelude.{IsTrue, codes, filter, is_some, slice_get, slice_set}
+use Rattle.std.specs.Prelude.{IsTrue, filter, is_some, slice_get, slice_set}
 use Rattle.std.specs.List.{AllByRecursion, list_any}
 use Rattle.std.proofs.Math.Path.{fun_ext}
 use Rattle.std.proofs.lemmas.Bool.{cond_both, false≢true, ltb-false, or_parts}
@@ -20,6 +19,7 @@ use Rattle.qq_lots.specs.Lots.{Lot, Part, Parts, keep_all}
 use Rattle.qq_lots.proofs.Writes.{tied-same}
 use Rattle.qq_raft_model.specs.Group.{has_node}
 use Rattle.qq_raft_protocol.specs.Facts.{In}
+use Rattle.qq_cluster_model.specs.declared.printed.Printed.TheVariants.{Stopped}
 use Rattle.qq_cluster_model.specs.Cluster.{Cluster, ClusterEvent, Fails, NodeSyncs, Setup, cluster_happens, members}
 use Rattle.qq_cluster_model.specs.Laws.{CountsRise}
 use Rattle.qq_cluster_model.specs.Queue.{Stops, Syncs as SyncsAt, happens, synced_after}
@@ -42,7 +42,7 @@ use Rattle.qq_node_log.specs.declared.syncing.SyncOutcome.{SyncOutcome}
 use Rattle.qq_node_log.specs.declared.syncing.SyncOutcome.TheVariants.{Whole, NoFile, Nothing}
 use Rattle.qq_node_log.proofs.Running.{running-same}
 use Rattle.qq_cluster_model.specs.Outcome.{Outcome}
-use Rattle.qq_cluster.specs.Showing.{with_line}
+use Rattle.qq_cluster.specs.Showing.{with_printed}
 use Rattle.qq_cluster.specs.Active.{is_in}
 use Rattle.qq_cluster.specs.Ends.{IsAtEnd}
 use Rattle.qq_cluster.specs.Logs.{ChangesLog, MaySyncAt, NodeTurns, Syncs, SyncsInPart}
@@ -58,7 +58,7 @@ use Rattle.qq_cluster.proofs.Quiet.{quiet-stopped, quiet-syncs}
 use Rattle.qq_cluster.proofs.Stands.{ends-now, same-logs, served-nothing, stands-logs}
 use Rattle.qq_cluster.proofs.WaitsThere.{place-here}
 use Rattle.qq_cluster.proofs.Total.{Allowed, total-sync}
-use Rattle.qq_cluster.proofs.Outcomes.{same-outcome, line-outcome}
+use Rattle.qq_cluster.proofs.Outcomes.{same-outcome}
 
 -- a number of a file ends at 2^63
 last-ends : {D : Type 0} (log : NodeLog D) (number : ℕ) → IsLastIn log (Spent number) → IsAtEnd number
@@ -370,12 +370,6 @@ module _ {D : Type 0} {facts : DiskFacts D} where
 
       -- ---- the disk failed
 
-      abbrev line : List ℕ
-      line = codes "node " ++ decimal k ++ codes " stopped\n"
-
-      said : (before after : Outcome) → after ≡ with_line line before → after ≡ with_line (line ++ []) before
-      said before after is = is ∙ line-outcome line before
-
       quiet-still : (d : Cluster) → ((at : ℕ) → at < length old.queues.items → is_in at old.active ≡ false
           → d.queue (at + 1) ≡ c.queue (at + 1)) → d.up ≡ c.up → (at : ℕ) → at < length old.queues.items
           → is_in at old.active ≡ false
@@ -389,7 +383,7 @@ module _ {D : Type 0} {facts : DiskFacts D} where
       failed-alone : (before last : Held D) (first after : Outcome) → HasStopped k before last
           → before ≡ record old { queues = before.queues; nodes = nodes }
           → length before.queues.items ≡ length old.queues.items
-          → QueuesOf setup (standings old.sessions) c before.queues.items → after ≡ with_line line first
+          → QueuesOf setup (standings old.sessions) c before.queues.items → after ≡ with_printed (Stopped k ∷ []) first
           → Rose (facts.faults (disk_in ch.before)) (facts.faults (disk_in ch.behind))
           → Serves setup c (IsSync setup k c) (Stands facts setup last) (seen facts old) (seen facts last) first after
       failed-alone before last first after stopped same many queues says rose =
@@ -405,7 +399,7 @@ module _ {D : Type 0} {facts : DiskFacts D} where
           (stopped-queues k setup (standings before.sessions) c before last stopped
           (subst (λ (s : List (ℕ × Standing)). QueuesOf setup (standings s) c before.queues.items)
           (sym (ap (λ (h : Held D). h.sessions) same)) queues))) refl
-          (quiet-still c (λ at lt calm. refl) refl)) (said first after says)
+          (quiet-still c (λ at lt calm. refl) refl)) says
           (λ told linked. failed-traced setup c k
           (facts.past (disk_in ch.before)) (facts.past (disk_in ch.behind)) linked.promised (moments told linked))
         where
@@ -415,7 +409,7 @@ module _ {D : Type 0} {facts : DiskFacts D} where
 
       -- after the sync, where a new file was begun
       failed-after : (before last : Held D) (first after : Outcome) → outcome ≡ NoFile → HasTurned (SyncsAt k) mid before
-          → HasStopped k before last → some_queue setup (waits_synced k) c ≡ true → after ≡ with_line line first
+          → HasStopped k before last → some_queue setup (waits_synced k) c ≡ true → after ≡ with_printed (Stopped k ∷ []) first
           → Rose (facts.faults (disk_in ch.before)) (facts.faults (disk_in ch.behind))
           → Serves setup c (IsSync setup k c) (Stands facts setup last) (seen facts old) (seen facts last) first after
       failed-after before last first after no_file marked stopped some says rose =
@@ -435,7 +429,7 @@ module _ {D : Type 0} {facts : DiskFacts D} where
           (subst (λ (s : List (ℕ × Standing)). QueuesOf setup (standings s) d before.queues.items)
           (sym (ap (λ (h : Held D). h.sessions) marked.same))
           (mid-queues before marked setup c d r st (λ at lt. refl))))) refl
-          (quiet-still d (λ at lt calm. still setup c r st at lt calm) refl)) (said first after says)
+          (quiet-still d (λ at lt calm. still setup c r st at lt calm) refl)) says
           (λ told linked. traced linked
           (subst (λ (o : SyncOutcome). HasCome o (lot_of setup k) (parts_at c k) (facts.past (disk_in ch.before))
           (facts.past (disk_in ch.behind))) no_file (come told linked)))
@@ -487,7 +481,7 @@ module _ {D : Type 0} {facts : DiskFacts D} where
     pub synced-failed : (marked last : Held D) (before after : Outcome)
         → NodeTurns (Syncs facts NoFile) (k - 1) old.nodes.items nodes.items
         → HasTurned (SyncsAt k) after_log marked → HasStopped k marked last
-        → after ≡ with_line (codes "node " ++ decimal k ++ codes " stopped\n") before
+        → after ≡ with_printed (Stopped k ∷ []) before
         → Served facts (λ setup. IsSync setup k) old last before after
     synced-failed marked last before after turn turned stopped says = record {
       serves = λ setup c r st. whether _ (some_queue setup (waits_synced k) c)
@@ -502,7 +496,7 @@ module _ {D : Type 0} {facts : DiskFacts D} where
     -- it failed in the sync
     pub sync-failed : (last : Held D) (before after : Outcome)
         → NodeTurns (Syncs facts Nothing) (k - 1) old.nodes.items nodes.items
-        → HasStopped k after_log last → after ≡ with_line (codes "node " ++ decimal k ++ codes " stopped\n") before
+        → HasStopped k after_log last → after ≡ with_printed (Stopped k ∷ []) before
         → Served facts (λ setup. IsSync setup k) old last before after
     sync-failed last before after turn stopped says = record {
       serves = λ setup c r st.

@@ -1,7 +1,7 @@
 -- What is told of what a queue shows.
 use Rattle.std.proofs.Common.{◌≡◌, ℕ, zero, suc, Bool, true, false, List, [], ◌∷◌, ◌++◌, Option, Some, None, map, refl, sym, ap, ◌∙◌, append_assoc, append-nil}
 use Rattle.std.specs.Prelude.{slice_get}
-use Rattle.std.specs.List.{AllByRecursion, flat_map, slice_set}
+use Rattle.std.specs.List.{AllByRecursion, slice_set}
 use Rattle.std.specs.Option.{option_map_or}
 use Rattle.std.proofs.lemmas.Bool.{cond_both}
 use Rattle.qq_base.proofs.Lists.{AllByRecursion-append}
@@ -18,8 +18,8 @@ use Rattle.qq_taker.specs.declared.handed.Handed.{Handed}
 use Rattle.qq_taker.specs.declared.seats.Leaving.{Leaving}
 use Rattle.qq_taker.specs.declared.seats.Seat.{Seat}
 use Rattle.qq_taker.specs.declared.taker.Verdict.{Verdict}
-use Rattle.qq_script.specs.Shown.{shown_text}
-use Rattle.qq_cluster_model.specs.Outcome.{Outcome, hear_some, heard_by, sees_all, turns}
+use Rattle.qq_cluster_model.specs.Outcome.{Outcome, sees, sees_all}
+use Rattle.qq_cluster_model.specs.declared.printed.Printed.TheVariants.{Of}
 use Rattle.qq_cluster_model.specs.Queue.{Queue, Event, Submits, Judges, Resends, Downs, attached, consumer_of, happens, has_leader, handed_out, offered, rows_told, said, seats_after, told}
 use Rattle.qq_cluster_model.specs.Taking.{answers, delivered, dropped_by, judged, judged_by, leaving_at, seated_by, told_of, told_then}
 use Rattle.qq_queue.specs.ClusterQueue.{Stands as IsQueue}
@@ -34,14 +34,13 @@ use Rattle.qq_cluster.specs.Happening.{IsUnasked}
 use Rattle.qq_cluster.specs.Judging.{HasJudged, IsAsked, asked_by}
 use Rattle.qq_cluster.specs.Telling.{Does, tell, tell_all, turns_then}
 
--- ---- the text
+-- ---- what is printed
 
-pub tell_all-text : (first : Bool) (place : ℕ) (name : List ℕ) (shown : List Shown) (o : Outcome)
-    → (tell_all first place name shown o).text ≡ o.text ++ flat_map (shown_text first name) shown
-tell_all-text first place name [] o = sym (append-nil o.text)
-tell_all-text first place name (x ∷ more) o =
-    tell_all-text first place name more (tell first place name x o)
-    ∙ append_assoc o.text (shown_text first name x) (flat_map (shown_text first name) more)
+pub tell_all-printed : (place : ℕ) (shown : List Shown) (o : Outcome)
+    → (tell_all place shown o).printed ≡ o.printed ++ map (Of place) shown
+tell_all-printed place [] o = sym (append-nil o.printed)
+tell_all-printed place (x ∷ more) o =
+    tell_all-printed place more (tell place x o) ∙ append_assoc o.printed (Of place x ∷ []) (map (Of place) more)
 
 -- ---- the takers
 
@@ -50,7 +49,7 @@ abbrev pub IsUntaken : Shown → Type 0
 IsUntaken (Taken number consumer delivery verdict) = ⊥
 IsUntaken shown = Unit {0}
 
-turns-same : (shown : Shown) (all : Takers) → IsUntaken shown → turns_then shown all ≡ turns shown all
+turns-same : (shown : Shown) (all : Takers) → IsUntaken shown → turns_then shown all ≡ sees shown all
 turns-same (Answered row) all untaken = refl
 turns-same (Delivered consumer delivery) all untaken = refl
 turns-same (NoLeader session) all untaken = refl
@@ -62,12 +61,12 @@ turns-same (IsBusy session number) all untaken = refl
 turns-same (Taken number consumer delivery verdict) all untaken = absurd untaken
 turns-same (Dropped session number) all untaken = refl
 
-pub tell_all-takers : (first : Bool) (place : ℕ) (name : List ℕ) (shown : List Shown) (o : Outcome)
-    → AllByRecursion IsUntaken shown → (tell_all first place name shown o).takers ≡ sees_all place shown o.takers
-tell_all-takers first place name [] o untaken = refl
-tell_all-takers first place name (x ∷ more) o untaken =
-    tell_all-takers first place name more (tell first place name x o) untaken.1
-    ∙ ap (λ (all : Takers). sees_all place more (hear_some (heard_by place x) all)) (turns-same x o.takers untaken.0)
+pub tell_all-takers : (place : ℕ) (shown : List Shown) (o : Outcome) → AllByRecursion IsUntaken shown
+    → (tell_all place shown o).takers ≡ sees_all shown o.takers
+tell_all-takers place [] o untaken = refl
+tell_all-takers place (x ∷ more) o untaken =
+    tell_all-takers place more (tell place x o) untaken.1
+    ∙ ap (λ (all : Takers). sees_all more all) (turns-same x o.takers untaken.0)
 
 -- ---- what shows no verdict
 
@@ -159,108 +158,96 @@ pub unasked-stays : (number : ℕ) (delivery : Delivery) (verdict : Verdict) (al
     → judge number delivery verdict all ≡ all
 unasked-stays zero delivery verdict all free = refl
 unasked-stays (suc at) delivery verdict all free =
-    ap (λ (held : List Held). let a : Takers = record { held = held; heard = all.heard } in a)
+    ap (λ (held : List Held). let a : Takers = record { held = held } in a)
     (unlooked delivery verdict at all.held free)
 
 -- the taker was asked before its verdict is told
-pub judged-takers : (first : Bool) (place : ℕ) (name : List ℕ) (seats : List Seat) (verdict : Verdict) (h : Handed)
-    (more : List Handed) (o : Outcome)
-    → (tell_all first place name (judged seats verdict (h ∷ more))
+pub judged-takers : (place : ℕ) (seats : List Seat) (verdict : Verdict) (h : Handed) (more : List Handed) (o : Outcome)
+    → (tell_all place (judged seats verdict (h ∷ more))
     (record o { takers = asked_by (taker_of h.consumer seats) h.delivery verdict o.takers })).takers
-    ≡ sees_all place (judged seats verdict (h ∷ more)) o.takers
-judged-takers first place name seats verdict h more o = by (taker_of h.consumer seats)
+    ≡ sees_all (judged seats verdict (h ∷ more)) o.takers
+judged-takers place seats verdict h more o = by (taker_of h.consumer seats)
   where
     by : (number : Option ℕ)
-        → (tell_all first place name (judged_by seats number h verdict more)
+        → (tell_all place (judged_by seats number h verdict more)
         (record o { takers = asked_by number h.delivery verdict o.takers })).takers
-        ≡ sees_all place (judged_by seats number h verdict more) o.takers
+        ≡ sees_all (judged_by seats number h verdict more) o.takers
     by None =
-        tell_all-takers first place name (delivered (h ∷ told_of seats more)) (record o { takers = o.takers })
+        tell_all-takers place (delivered (h ∷ told_of seats more)) (record o { takers = o.takers })
         (delivered-untaken (h ∷ told_of seats more))
     by (Some number) =
         let asked : Outcome = record o { takers = judge number h.delivery verdict o.takers } in
-        tell_all-takers first place name (delivered (told_of seats more))
-        (tell first place name (Taken number h.consumer h.delivery verdict) asked)
-        (delivered-untaken (told_of seats more))
+        tell_all-takers place (delivered (told_of seats more))
+        (tell place (Taken number h.consumer h.delivery verdict) asked) (delivered-untaken (told_of seats more))
 
 -- ---- what a call does
 
 -- an event has happened to a queue, and what it shows was told
-pub told-does : (first : Bool) (event : QueueEvent) (sessions : Standings) (old new : ClusterQueue) (place : ℕ)
-    (name : List ℕ) (shown list : List Shown) (before after : Outcome) → IsUnasked event
+pub told-does : (event : QueueEvent) (sessions : Standings) (old new : ClusterQueue) (place : ℕ) (shown : List Shown)
+    (before after : Outcome) → IsUnasked event
     → ((q : Queue) → IsQueue sessions old q
     → IsQueue sessions new (happens q (event_of event)) × (shown ≡ said q (event_of event)))
-    → list ≡ shown → place ≡ old.args.queue.0 → name ≡ old.name → after ≡ tell_all first place name list before
-    → Does first (event_of event) sessions old new before after
-told-does first event sessions old new place name shown list before after may does listed placed named told' q st =
-    let both = does q st in
-    let is : list ≡ said q (event_of event) = listed ∙ both.1 in (
+    → place ≡ old.args.queue.0 → after ≡ tell_all place shown before
+    → Does (event_of event) sessions old new before after
+told-does event sessions old new place shown before after may does placed told' q st =
+    let both = does q st in (
       both.0,
       record {
-        text = ap (λ (o : Outcome). o.text) told' ∙ tell_all-text first place name list before
-            ∙ ap (λ (l : List Shown). before.text ++ flat_map (shown_text first name) l) is
-            ∙ ap (λ (n : List ℕ). before.text ++ flat_map (shown_text first n) (said q (event_of event))) named;
+        printed = ap (λ (o : Outcome). o.printed) told' ∙ tell_all-printed place shown before
+            ∙ ap (λ (l : List Shown). before.printed ++ map (Of place) l) both.1
+            ∙ ap (λ (k : ℕ). before.printed ++ map (Of k) (said q (event_of event))) placed;
         takers = ap (λ (o : Outcome). o.takers) told'
-            ∙ ap (λ (l : List Shown). (tell_all first place name l before).takers) is
-            ∙ tell_all-takers first place name (said q (event_of event)) before (said-untaken q event may)
-            ∙ ap (λ (k : ℕ). sees_all k (said q (event_of event)) before.takers) placed;
+            ∙ ap (λ (l : List Shown). (tell_all place l before).takers) both.1
+            ∙ tell_all-takers place (said q (event_of event)) before (said-untaken q event may);
       },
     )
 
 -- the taker of the first delivery that waits has given a verdict on it, and that was told
-judged-shows : (first : Bool) (sessions : Standings) (old new : ClusterQueue) (h : Handed) (more : List Handed)
-    (verdict : Verdict) (place : ℕ) (name : List ℕ) (shown list : List Shown) (before after : Outcome)
-    → old.untold ≡ h ∷ more
+judged-shows : (sessions : Standings) (old new : ClusterQueue) (h : Handed) (more : List Handed) (verdict : Verdict)
+    (place : ℕ) (shown : List Shown) (before after : Outcome) → old.untold ≡ h ∷ more
     → ((q : Queue) → IsQueue sessions old q
     → IsQueue sessions new (happens q (Judges verdict)) × (shown ≡ said q (Judges verdict)))
-    → list ≡ shown → place ≡ old.args.queue.0 → name ≡ old.name
-    → after ≡ tell_all first place name list
+    → place ≡ old.args.queue.0
+    → after ≡ tell_all place shown
     (record before { takers = asked_by (taker_of h.consumer old.seats) h.delivery verdict before.takers })
-    → Does first (Judges verdict) sessions old new before after
-judged-shows first sessions old new h more verdict place name shown list before after waits does listed placed named
-    told' q st =
+    → Does (Judges verdict) sessions old new before after
+judged-shows sessions old new h more verdict place shown before after waits does placed told' q st =
     let both = does q st in
     let asked : Outcome =
     record before { takers = asked_by (taker_of h.consumer old.seats) h.delivery verdict before.takers } in
     let own : said q (Judges verdict) ≡ judged old.seats verdict (h ∷ more) =
     ap (judged q.seats verdict) (st.untold ∙ waits)
-    ∙ ap (λ (l : List Seat). judged l verdict (h ∷ more)) st.seats in
-    let is : list ≡ judged old.seats verdict (h ∷ more) = listed ∙ both.1 ∙ own in (
+    ∙ ap (λ (l : List Seat). judged l verdict (h ∷ more)) st.seats in (
       both.0,
       record {
-        text = ap (λ (o : Outcome). o.text) told' ∙ tell_all-text first place name list asked
-            ∙ ap (λ (l : List Shown). before.text ++ flat_map (shown_text first name) l) (listed ∙ both.1)
-            ∙ ap (λ (n : List ℕ). before.text ++ flat_map (shown_text first n) (said q (Judges verdict))) named;
+        printed = ap (λ (o : Outcome). o.printed) told' ∙ tell_all-printed place shown asked
+            ∙ ap (λ (l : List Shown). before.printed ++ map (Of place) l) both.1
+            ∙ ap (λ (k : ℕ). before.printed ++ map (Of k) (said q (Judges verdict))) placed;
         takers = ap (λ (o : Outcome). o.takers) told'
-            ∙ ap (λ (l : List Shown). (tell_all first place name l asked).takers) is
-            ∙ judged-takers first place name old.seats verdict h more before
-            ∙ ap (λ (l : List Shown). sees_all place l before.takers) (sym own)
-            ∙ ap (λ (k : ℕ). sees_all k (said q (Judges verdict)) before.takers) placed;
+            ∙ ap (λ (l : List Shown). (tell_all place l asked).takers) (both.1 ∙ own)
+            ∙ judged-takers place old.seats verdict h more before
+            ∙ ap (λ (l : List Shown). sees_all l before.takers) (sym own);
       },
     )
 
 -- of whatever waits first
-pub has-judged : (first : Bool) (sessions : Standings) (old new : ClusterQueue) (untold : List Handed)
-    (verdict : Verdict) (claim : Option Claim) (place : ℕ) (name : List ℕ) (shown list : List Shown)
-    (before mid after : Outcome) → old.untold ≡ untold → IsAsked old.seats untold (Some verdict) before mid
-    → claim ≡ claim_first verdict untold
+pub has-judged : (sessions : Standings) (old new : ClusterQueue) (untold : List Handed) (verdict : Verdict)
+    (claim : Option Claim) (place : ℕ) (shown : List Shown) (before mid after : Outcome) → old.untold ≡ untold
+    → IsAsked old.seats untold (Some verdict) before mid → claim ≡ claim_first verdict untold
     → ((q : Queue) → IsQueue sessions old q
     → IsQueue sessions new (happens q (Judges verdict)) × (shown ≡ said q (Judges verdict)))
-    → list ≡ shown → place ≡ old.args.queue.0 → name ≡ old.name → after ≡ tell_all first place name list mid
-    → HasJudged first sessions untold old new before after claim
-has-judged first sessions old new [] verdict claim place name shown list before mid after waits asked claimed does
-    listed placed named told' =
+    → place ≡ old.args.queue.0 → after ≡ tell_all place shown mid
+    → HasJudged sessions untold old new before after claim
+has-judged sessions old new [] verdict claim place shown before mid after waits asked claimed does placed told' =
     absurd (let n : ◌≡◌ {A = Option Verdict} (Some verdict) None = asked.0 in cc)
-has-judged first sessions old new (h ∷ more) verdict claim place name shown list before mid after waits asked claimed
-    does listed placed named told' =
+has-judged sessions old new (h ∷ more) verdict claim place shown before mid after waits asked claimed does placed told' =
     let same : asked.0 ≡ verdict =
     (let e : ◌≡◌ {A = Option Verdict} (Some verdict) (Some asked.0) = asked.1.0 in cc) in
     record {
       verdict = verdict;
       does =
-          judged-shows first sessions old new h more verdict place name shown list before after waits does listed placed
-          named
-          (told' ∙ ap (tell_all first place name list) (asked.1.1
+          judged-shows sessions old new h more verdict place shown before after waits does placed
+          (told' ∙ ap (tell_all place shown) (asked.1.1
           ∙ ap (λ (v : Verdict). let o : Outcome = record before {
             takers = asked_by (taker_of h.consumer old.seats) h.delivery v before.takers;
           } in o) same));
@@ -268,9 +255,9 @@ has-judged first sessions old new (h ∷ more) verdict claim place name shown li
     }
 
 -- nothing waited
-pub judged-none : (first : Bool) (sessions : Standings) (old : ClusterQueue) (untold : List Handed)
-    (answer : Option Verdict) (before after : Outcome) → answer ≡ None → IsAsked old.seats untold answer before after
-    → HasJudged first sessions untold old old before after None
-judged-none first sessions old [] answer before after none' asked = (refl, asked.1, refl)
-judged-none first sessions old (h ∷ more) answer before after none' asked =
+pub judged-none : (sessions : Standings) (old : ClusterQueue) (untold : List Handed) (answer : Option Verdict)
+    (before after : Outcome) → answer ≡ None → IsAsked old.seats untold answer before after
+    → HasJudged sessions untold old old before after None
+judged-none sessions old [] answer before after none' asked = (refl, asked.1, refl)
+judged-none sessions old (h ∷ more) answer before after none' asked =
     absurd (let e : ◌≡◌ {A = Option Verdict} None (Some asked.0) = sym none' ∙ asked.1.0 in cc)

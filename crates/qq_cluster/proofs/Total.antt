@@ -5,7 +5,7 @@ use Rattle.qq_cluster_model.specs.Cluster.{Cluster, ClusterEvent, Setup, At, Nod
 use Rattle.qq_cluster_model.specs.Queue.{Delivers, Downs, Event, Fetches, Judges, Notices, Submits, TellsEnded, TellsNotTaken}
 use Rattle.qq_taker.specs.declared.handed.Handed.{Handed}
 use Rattle.qq_taker.specs.declared.taker.Verdict.TheVariants.{Keep}
-use Rattle.qq_cluster_model.specs.Rules.{ForEach, Is, IsClaimed, IsEmptied, IsGiven, IsJudgedWhere, IsNextJudged, IsNodeRound, IsNothing, IsNotice, IsPump, IsPumped, IsRound, IsSync, IsSynced, IsTold, IsWrite, IsWritten, MayRoll, Pumps, Tells, Then, Times, if_so, is_ended, is_idle, most_rounds, not_taken, some_queue, waits_noticed, waits_synced, waits_written}
+use Rattle.qq_cluster_model.specs.Rules.{ForEach, Is, IsClaimed, IsEmptied, IsGiven, IsJudgedWhere, IsNextJudged, IsNodeRound, IsNothing, IsNotice, IsPump, IsPumped, IsRound, IsSync, IsSynced, IsTold, IsWrite, IsWritten, MayRoll, Pumps, Follows, Then, Times, if_so, is_ended, is_idle, most_rounds, not_taken, some_queue, waits_noticed, waits_synced, waits_written}
 
 abbrev pub Allowed : (Cluster → List ClusterEvent → Type 0) → Cluster → Type 0
 Allowed Allows c = (events : List ClusterEvent) × Allows c events
@@ -60,7 +60,7 @@ total-next place c = by (c.queue place).untold
 pub total-told : (place : ℕ) → Total (IsTold place)
 total-told place c = total-times (length (c.queue place).untold) (IsNextJudged place) (total-next place) c
 
-pub total-tells : (place : ℕ) (event : Event) → Total (Tells place event)
+pub total-tells : (place : ℕ) (event : Event) → Total (Follows place event)
 total-tells place event =
     total-then (Is (At place event)) (IsTold place) (total-is (At place event)) (total-told place)
 
@@ -79,7 +79,7 @@ total-sync setup k c =
 
 pub total-notice : (k place : ℕ) → Total (IsNotice k place)
 total-notice k place c =
-    total-if (c.up k && waits_noticed k (c.queue place)) (Tells place (Notices k)) IsNothing c
+    total-if (c.up k && waits_noticed k (c.queue place)) (Follows place (Notices k)) IsNothing c
     (total-tells place (Notices k) c) (total-nothing c)
 
 pub total-notices : (setup : Setup) (k : ℕ) → Total (ForEach setup.places (IsNotice k))
@@ -92,7 +92,7 @@ total-node setup k =
 
 pub total-emptied : (place : ℕ) → Total (IsEmptied place)
 total-emptied place c =
-    total-times (length (c.queue place).group.bag) (Tells place (Delivers 0)) (total-tells place (Delivers 0)) c
+    total-times (length (c.queue place).group.bag) (Follows place (Delivers 0)) (total-tells place (Delivers 0)) c
 
 pub total-empties : (setup : Setup) → Total (ForEach setup.places IsEmptied)
 total-empties setup = total-each setup.places IsEmptied total-emptied
@@ -126,9 +126,9 @@ total-given session body place c =
     by (Some id) = total-is (At place (TellsNotTaken session id)) c
 
 pub total-fetches : (setup : Setup) (session : ℕ)
-    → Total (ForEach setup.places (λ place. Tells place (Fetches session)))
+    → Total (ForEach setup.places (λ place. Follows place (Fetches session)))
 total-fetches setup session =
-    total-each setup.places (λ place. Tells place (Fetches session)) (λ place. total-tells place (Fetches session))
+    total-each setup.places (λ place. Follows place (Fetches session)) (λ place. total-tells place (Fetches session))
 
 pub total-downs : (setup : Setup) (session : ℕ) → Total (ForEach setup.places (λ place. Is (At place (Downs session))))
 total-downs setup session =

@@ -1,8 +1,7 @@
 -- What waits at a node is written to its log.
 use Rattle.std.proofs.Common.{◌≡◌, ◌<◌, ◌≤◌, ◌+◌, ◌-◌, ℕ, Bool, true, false, ◌&&◌, List, [], ◌∷◌, ◌++◌, Some, length, refl, sym, ap, ◌∙◌, subst, inl, inr, arith}
-use Rattle.std.specs.Fmt.{decimal}
 use Rattle.std.specs.Global.{Vec}
-use Rattle.std.specs.Prelude.{All, IsSome, codes, replicate, slice_get, slice_set}
+use Rattle.std.specs.Prelude.{All, IsSome, replicate, slice_get, slice_set}
 use Rattle.std.specs.List.{AllByRecursion, flat_map}
 use Rattle.std.proofs.lemmas.Bool.{and_from, and_right, false≢true}
 use Rattle.qq_base.proofs.Lists.{AllByRecursion-weaker}
@@ -19,6 +18,7 @@ use Rattle.qq_raft_model.specs.Group.{group_after}
 use Rattle.qq_raft_model.specs.Group.Event.{Take}
 use Rattle.qq_raft_protocol.specs.Facts.{In}
 use Rattle.qq_log.specs.Carries.{is_listed}
+use Rattle.qq_cluster_model.specs.declared.printed.Printed.TheVariants.{Stopped}
 use Rattle.qq_cluster_model.specs.Cluster.{Cluster, ClusterEvent, Fails, NodeWrites, Setup, cluster_happens}
 use Rattle.qq_cluster_model.specs.ClusterLaws.{HasGroups}
 use Rattle.qq_cluster_model.specs.Queue.{Queue, Writes, happens, waiting}
@@ -39,7 +39,7 @@ use Rattle.qq_node_log.specs.declared.node_log.NodeLog.{NodeLog}
 use Rattle.qq_node_log.specs.declared.node_log.NodeLog.TheVariants.{Open, Closed}
 use Rattle.qq_node_log.proofs.Running.{running-same}
 use Rattle.qq_cluster_model.specs.Outcome.{Outcome}
-use Rattle.qq_cluster.specs.Showing.{with_line}
+use Rattle.qq_cluster.specs.Showing.{with_printed}
 use Rattle.qq_cluster.specs.Active.{is_in}
 use Rattle.qq_cluster.specs.Ends.{IsAtEnd}
 use Rattle.qq_cluster.specs.Logs.{Appends, AppendsInPart, ChangesLog, MayAppendAt, NodeTurns}
@@ -56,7 +56,7 @@ use Rattle.qq_cluster.proofs.Stands.{ends-now, same-logs, served-nothing, served
 use Rattle.qq_cluster.proofs.Taken.{apart-places, each-none, none-written, nothing-waits, some-written, taken-places, taken-waiting, waits_at}
 use Rattle.qq_cluster.proofs.WaitsThere.{place-here}
 use Rattle.qq_cluster.proofs.Total.{Allowed, total-write}
-use Rattle.qq_cluster.proofs.Outcomes.{same-outcome, line-outcome}
+use Rattle.qq_cluster.proofs.Outcomes.{same-outcome}
 
 -- what the law of what waits says
 abbrev pub GoesOn : Type 0
@@ -265,7 +265,7 @@ module _ {D : Type 0} {facts : DiskFacts D} where
     pub write-failed : (nodes : Vec (Node D)) (last : Held D) (before after : Outcome) → (ops ≡ [] → ⊥)
         → NodeTurns (Appends facts ops false) (k - 1) mid.nodes.items nodes.items
         → HasStopped k (record mid { nodes = nodes }) last
-        → after ≡ with_line (codes "node " ++ decimal k ++ codes " stopped\n") before
+        → after ≡ with_printed (Stopped k ∷ []) before
         → Served facts (λ setup. IsWrite setup k) old last before after
     write-failed nodes last before after some turn stopped says = record {
       serves = λ setup c r st.
@@ -316,7 +316,7 @@ module _ {D : Type 0} {facts : DiskFacts D} where
           (mid-queues setup c d st (λ at lt. refl))) refl
           (λ at lt calm. quiet-stopped setup c.up (happens (c.queue (at + 1)) (Writes k)) k
           (ap (is_quiet setup c.up) (still setup c st at lt calm) ∙ st.quiet at lt calm)))
-          (says ∙ line-outcome (codes "node " ++ decimal k ++ codes " stopped\n") before)
+          says
           (λ told linked. write_failed-traced setup c k ops
           (facts.past (disk_in ch.before)) (facts.past (disk_in ch.behind)) waits
           linked (log-moments setup c k turn.old turn.new later was (is-up setup c st) ch told linked).0));

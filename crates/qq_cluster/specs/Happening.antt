@@ -1,5 +1,5 @@
 -- What happens to one queue of the nodes.
-use Rattle.std.specs.Prelude.{◌≡◌, ℕ, List, Some, nat_eq, slice_get, slice_set}
+use Rattle.std.specs.Prelude.{◌≡◌, ℕ, List, Some, slice_get, slice_set}
 use Rattle.qq_cluster_model.specs.Outcome.{Outcome}
 use Rattle.qq_cluster_model.specs.Queue.{Event}
 use Rattle.qq_queue.specs.ClusterQueue.{IsSameQueue}
@@ -25,4 +25,4 @@ pub record DoesAt (event : Event) (sessions : Standings) (at : ℕ) (olds news :
   pub is : news ≡ slice_set olds at new
   pub sound : AreSound new.group
   pub same : IsSameQueue old new
-  pub does : Does (nat_eq at 0) event sessions old new before after
+  pub does : Does event sessions old new before after

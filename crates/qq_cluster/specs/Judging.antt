@@ -1,5 +1,5 @@
 -- What comes of a verdict: it is given, and the consumer's session then gives the command that it is.
-use Rattle.std.specs.Prelude.{◌≡◌, ℕ, List, [], ◌∷◌, Bool, Option, Some, None, nat_eq, slice_get, slice_set}
+use Rattle.std.specs.Prelude.{◌≡◌, ℕ, List, [], ◌∷◌, Option, Some, None, slice_get, slice_set}
 use Rattle.qq_entry.specs.declared.answer.Delivery.{Delivery}
 use Rattle.qq_taker.specs.Seats.{taker_of}
 use Rattle.qq_taker.specs.Takers.{Takers, judge}
@@ -33,17 +33,17 @@ IsAsked seats (h ∷ more) answer before after =
     × (after ≡ record before { takers = asked_by (taker_of h.consumer seats) h.delivery verdict before.takers }))
 
 -- the delivery has a verdict, and this is what follows
-pub record IsJudged (first : Bool) (sessions : Standings) (h : Handed) (old new : ClusterQueue)
+pub record IsJudged (sessions : Standings) (h : Handed) (old new : ClusterQueue)
     (before after : Outcome) (claim : Option Claim) : Type 0 where
   pub verdict : Verdict
-  pub does : Does first (Judges verdict) sessions old new before after
+  pub does : Does (Judges verdict) sessions old new before after
   pub claim_is : claim ≡ claim_of verdict h
 
 -- of the first delivery that waits, where one does
-abbrev pub HasJudged : Bool → Standings → List Handed → ClusterQueue → ClusterQueue → Outcome → Outcome
-    → Option Claim → Type 0
-HasJudged first sessions [] old new before after claim = (new ≡ old) × (after ≡ before) × (claim ≡ None)
-HasJudged first sessions (h ∷ more) old new before after claim = IsJudged first sessions h old new before after claim
+abbrev pub HasJudged : Standings → List Handed → ClusterQueue → ClusterQueue → Outcome → Outcome → Option Claim
+    → Type 0
+HasJudged sessions [] old new before after claim = (new ≡ old) × (after ≡ before) × (claim ≡ None)
+HasJudged sessions (h ∷ more) old new before after claim = IsJudged sessions h old new before after claim
 
 -- the first delivery that waits at the queue at an index was judged, and this command follows
 pub record JudgesAt (claim : Option Claim) (sessions : Standings) (at : ℕ) (olds news : List ClusterQueue)
@@ -54,7 +54,7 @@ pub record JudgesAt (claim : Option Claim) (sessions : Standings) (at : ℕ) (ol
   pub is : news ≡ slice_set olds at new
   pub sound : AreSound new.group
   pub same : IsSameQueue old new
-  pub judged : HasJudged (nat_eq at 0) sessions old.untold old new before after claim
+  pub judged : HasJudged sessions old.untold old new before after claim
 
 -- ---- the rules
 

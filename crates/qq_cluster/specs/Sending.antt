@@ -4,7 +4,7 @@ use Rattle.qq_base.specs.declared.ids.QueueId.{QueueId}
 use Rattle.qq_entry.specs.declared.command.Unstamped.{Unstamped}
 use Rattle.qq_cluster_model.specs.Cluster.{At, Cluster, ClusterEvent, Setup}
 use Rattle.qq_cluster_model.specs.Queue.{Fetches, Resends}
-use Rattle.qq_cluster_model.specs.Rules.{ForEach, Is, IsGiven, Tells, Then}
+use Rattle.qq_cluster_model.specs.Rules.{ForEach, Is, IsGiven, Follows, Then}
 use Rattle.qq_cluster_laws.specs.Serves.{Leads}
 
 abbrev pub numbers_of : List QueueId → List ℕ
@@ -19,4 +19,4 @@ GivesTo session body places count setup c =
 abbrev pub Sends : Setup → ℕ → Cluster → List ClusterEvent → Type 0
 Sends setup session =
     Then (ForEach setup.places (λ place. Is (At place (Resends session))))
-    (ForEach setup.places (λ place. Tells place (Fetches session)))
+    (ForEach setup.places (λ place. Follows place (Fetches session)))

@@ -17,11 +17,10 @@ use qq_queue::{Claim, ClusterQueue, QueueEvent, Sessions};
 use qq_taker::{Taker, Verdict};
 use std::alloc::Global;
 
-// Something happens to a queue, the cluster's first one or not, and what that shows is told.
+// Something happens to a queue, and what that shows is told.
 #[inline(always)]
 fn happen_told<T: Taker>(
     queue: &mut ClusterQueue,
-    first: bool,
     alloc: Global,
     sessions: &Sessions,
     event: QueueEvent,
@@ -31,13 +30,13 @@ fn happen_told<T: Taker>(
     requires may { IsUnasked event }
     ensures sound { AreSound queue.new.group }
     ensures same { IsSameQueue queue.old queue.new }
-    ensures ok { OnOk result (Does first (event_of event) (standings sessions.now)
+    ensures ok { OnOk result (Does (event_of event) (standings sessions.now)
         queue.old queue.new told.old told.new) }
     ensures cause { IfErr result (λ e. (e ≡ Want) ⊎ IsRefused event queue.old e) }
 {
     let mut shown = Vec::new(alloc);
     queue.happen(alloc, sessions, event, &mut shown)?;
-    told.tell_all(alloc, first, queue.number(), &queue.name, shown.as_slice())?;
+    told.tell_all(queue.number(), shown)?;
     Ok(())
 }
 
@@ -58,7 +57,7 @@ pub(crate) fn happen_at<T: Taker>(
         queues.new told.old told.new) }
     ensures cause { IfErr result (λ e. (e ≡ Want) ⊎ IsRefusedAt event at queues.old e) }
 {
-    happen_told(&mut queues[at], at == 0, alloc, sessions, event, told)
+    happen_told(&mut queues[at], alloc, sessions, event, told)
 }
 
 /// The same of all of them.
@@ -102,7 +101,6 @@ fn ask<T: Taker>(queue: &ClusterQueue, told: &mut Told<T>) -> Result<Option<Verd
 // behind it up to the next one for a taker. The answer is the command that follows.
 fn judge_told<T: Taker>(
     queue: &mut ClusterQueue,
-    first: bool,
     alloc: Global,
     sessions: &Sessions,
     told: &mut Told<T>,
@@ -111,7 +109,7 @@ fn judge_told<T: Taker>(
     ensures sound { AreSound queue.new.group }
     ensures same { IsSameQueue queue.old queue.new }
     ensures ok { IfOk result (λ claim.
-        HasJudged first (standings sessions.now) queue.old.untold queue.old queue.new
+        HasJudged (standings sessions.now) queue.old.untold queue.old queue.new
         told.old told.new claim) }
     ensures may { IfOk result (λ claim. IfSome claim MayClaim) }
     ensures want { IsOkUnless result Memory.Want }
@@ -122,7 +120,7 @@ fn judge_told<T: Taker>(
     let claim = queue.claim(alloc, verdict)?;
     let mut shown = Vec::new(alloc);
     queue.happen(alloc, sessions, QueueEvent::Judge { verdict }, &mut shown)?;
-    told.tell_all(alloc, first, queue.number(), &queue.name, shown.as_slice())?;
+    told.tell_all(queue.number(), shown)?;
     Ok(claim)
 }
 
@@ -142,7 +140,7 @@ pub(crate) fn judge_at<T: Taker>(
     ensures may { IfOk result (λ claim. IfSome claim MayClaim) }
     ensures want { IsOkUnless result Memory.Want }
 {
-    judge_told(&mut queues[at], at == 0, alloc, sessions, told)
+    judge_told(&mut queues[at], alloc, sessions, told)
 }
 
 /// The same of all of them.

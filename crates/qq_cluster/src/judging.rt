@@ -1,7 +1,7 @@
 //! Takers are asked about what was handed out.
 ghost use Rattle.std.specs.Prelude.{◌≡◌, ◌<◌, ◌+◌, true, length, IfErr, IfOk, IfSome, IsOkUnless, OnOk};
 ghost use Rattle.qq_cluster_model.specs.Cluster.{Cluster, Setup};
-ghost use Rattle.qq_cluster_model.specs.Rules.{IsNextJudged, IsTold, Tells};
+ghost use Rattle.qq_cluster_model.specs.Rules.{IsNextJudged, IsTold, Follows};
 ghost use Rattle.qq_queue.specs.Judging.{MayClaim};
 ghost use Rattle.qq_cluster.specs.Active.{is_in};
 ghost use Rattle.qq_queue.specs.Events.{event_of};
@@ -127,10 +127,10 @@ impl<D: NodeDisk> Nodes<D> {
         requires place { at < length self.old.queues.items }
         requires active { is_in at self.old.active ≡ true }
         requires may { IsUnasked event }
-        ensures ok { OnOk result (Served D.facts (λ setup. Tells (at + 1) (event_of event))
+        ensures ok { OnOk result (Served D.facts (λ setup. Follows (at + 1) (event_of event))
             self.old self.new told.old told.new) }
         ensures active { self.new.active ≡ self.old.active }
-        ensures err { IfErr result (GaveUp D.facts (λ setup. Tells (at + 1) (event_of event))
+        ensures err { IfErr result (GaveUp D.facts (λ setup. Follows (at + 1) (event_of event))
             self.old self.new) }
     {
         self.happen_active(alloc, at, event, told)?;
@@ -149,9 +149,9 @@ impl<D: NodeDisk> Nodes<D> {
         requires serve { CanServe D.facts self.old }
         requires place { at < length self.old.queues.items }
         requires may { IsUnasked event }
-        ensures ok { OnOk result (Served D.facts (λ setup. Tells (at + 1) (event_of event))
+        ensures ok { OnOk result (Served D.facts (λ setup. Follows (at + 1) (event_of event))
             self.old self.new told.old told.new) }
-        ensures err { IfErr result (GaveUp D.facts (λ setup. Tells (at + 1) (event_of event))
+        ensures err { IfErr result (GaveUp D.facts (λ setup. Follows (at + 1) (event_of event))
             self.old self.new) }
     {
         self.wake(at)?;

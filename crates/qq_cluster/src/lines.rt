@@ -4,7 +4,7 @@ ghost use Rattle.qq_cluster_model.specs.Cluster.{Cluster, Setup, Alike, At, Ends
 ghost use Rattle.qq_cluster_model.specs.Lines.{AndPumped, WhereUp};
 ghost use Rattle.qq_cluster_model.specs.Outcome.{Outcome};
 ghost use Rattle.qq_cluster_model.specs.Queue.{Attaches, Downs, Notices, Ticks};
-ghost use Rattle.qq_cluster_model.specs.Rules.{ForEach, Is, IsEnd, IsGiven, IsSync, IsWrite, Tells, not_taken};
+ghost use Rattle.qq_cluster_model.specs.Rules.{ForEach, Is, IsEnd, IsGiven, IsSync, IsWrite, Follows, not_taken};
 ghost use Rattle.qq_queue.specs.Range.{MayStamp};
 ghost use Rattle.qq_cluster.specs.Active.{is_in};
 ghost use Rattle.qq_queue.specs.Events.{event_of};
@@ -170,10 +170,10 @@ impl<D: NodeDisk> Nodes<D> {
         requires queue { IsQueueAt queue self.old }
         requires node { IsNodeAt node self.old }
         ensures ok { OnOk result (Served D.facts
-            (λ (setup : Setup). WhereUp node.0 (Tells queue.0 (Notices node.0)))
+            (λ (setup : Setup). WhereUp node.0 (Follows queue.0 (Notices node.0)))
             self.old self.new told.old told.new) }
         ensures err { IfErr result (GaveUp D.facts
-            (λ (setup : Setup). WhereUp node.0 (Tells queue.0 (Notices node.0))) self.old self.new) }
+            (λ (setup : Setup). WhereUp node.0 (Follows queue.0 (Notices node.0))) self.old self.new) }
     {
         let up = self.is_up(node);
         if !up {

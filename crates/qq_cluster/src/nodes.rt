@@ -1,6 +1,5 @@
 //! The nodes of a cluster and its queues, side by side.
-ghost use Rattle.std.specs.Prelude.{◌≡◌, ◌<◌, ◌-◌, ◌+◌, ◌++◌, ◌&&◌, true, length, IfErr, IsOkUnless, OnOk};
-ghost use Rattle.std.specs.Fmt.{decimal};
+ghost use Rattle.std.specs.Prelude.{◌≡◌, ◌<◌, ◌-◌, ◌+◌, ◌&&◌, true, length, IfErr, IsOkUnless, OnOk};
 ghost use Rattle.qq_cluster_model.specs.Cluster.{Cluster, Setup, At, SaysBusy, SaysDown, SaysEnded, SaysNoSuch, SaysUnroutable, Sets};
 ghost use Rattle.qq_cluster_model.specs.Outcome.{Outcome};
 ghost use Rattle.qq_cluster_model.specs.Rules.{Is, IsNothing, is_quiet_at, waits_noticed};
@@ -9,14 +8,13 @@ ghost use Rattle.qq_cluster.specs.Active.{is_in};
 ghost use Rattle.qq_queue.specs.Events.{event_of};
 ghost use Rattle.qq_cluster.specs.Happening.{IsUnasked};
 ghost use Rattle.qq_cluster.specs.Nodes.{CanServe, GaveUp, IsNodeAt, Served, Stands};
-ghost use Rattle.qq_cluster.specs.Showing.{with_line};
 
 use crate::active::Active;
 use crate::happening::happen_in;
 use crate::node::Node;
 use crate::told::Told;
-use itoa::Buffer;
 use qq_base::{Memory, NodeId};
+use qq_cluster_model::Printed;
 use qq_disk::NodeDisk;
 use qq_queue::{ClusterQueue, QueueEvent, Sessions, a_refusal_tells_an_end};
 use qq_taker::Taker;
@@ -25,7 +23,7 @@ use std::alloc::Global;
 /// The nodes of a cluster, and the queues that are replicated over them.
 ///
 /// A call answers what its line in a script allows (`Served`, by a rule of `qq_cluster_model`): some events happened,
-/// these stand for the cluster after them, their text was added, and takers saw what they show. After an error,
+/// these stand for the cluster after them, what they print was added, and takers saw what they show. After an error,
 /// which is want of memory or a number at its end, the run ends: these and what is told are used no more, each
 /// disk keeps what the events so far promised, and the number that is told stands at its end in a queue or in a
 /// node's log (`GaveUp`).
@@ -43,24 +41,6 @@ pub struct Nodes<D: NodeDisk> {
     pub(crate) auto: bool,
     /// How many bytes make a log file full.
     pub log_bytes: u64,
-}
-
-// A node's number between two words.
-pub(crate) fn add_node_line<T: Taker>(
-    first: &str,
-    node: NodeId,
-    last: &str,
-    told: &mut Told<T>,
-) -> Result<(), Memory>
-    ensures ok { OnOk result (told.new
-        ≡ with_line (first.now ++ decimal node.0 ++ last.now) told.old) }
-    ensures want { IsOkUnless result Memory.Want }
-{
-    let mut buffer = Buffer::new();
-    told.write(first.as_bytes())?;
-    told.write(buffer.format(u64::from(node.0)).as_bytes())?;
-    told.write(last.as_bytes())?;
-    Ok(())
 }
 
 impl<D: NodeDisk> Nodes<D> {
@@ -177,7 +157,7 @@ impl<D: NodeDisk> Nodes<D> {
             self.now self.now told.old told.new) }
         ensures want { IsOkUnless result Memory.Want }
     {
-        add_node_line("down ", node, "\n", told)
+        told.print(Printed::IsDown { node: node.0 })
     }
 
     // A pump has made all its rounds.
@@ -186,7 +166,7 @@ impl<D: NodeDisk> Nodes<D> {
             self.now self.now told.old told.new) }
         ensures want { IsOkUnless result Memory.Want }
     {
-        told.write(b"busy\n")
+        told.print(Printed::Busy)
     }
 
     // The commands of a session that has ended are to be sent again.
@@ -195,7 +175,7 @@ impl<D: NodeDisk> Nodes<D> {
             self.now self.now told.old told.new) }
         ensures want { IsOkUnless result Memory.Want }
     {
-        told.write(b"ended\n")
+        told.print(Printed::Ended)
     }
 
     // A line is for a message that isn't there.
@@ -204,7 +184,7 @@ impl<D: NodeDisk> Nodes<D> {
             self.now self.now told.old told.new) }
         ensures want { IsOkUnless result Memory.Want }
     {
-        told.write(b"no such\n")
+        told.print(Printed::NoSuch)
     }
 
     // A message is routed to no queue.
@@ -213,7 +193,7 @@ impl<D: NodeDisk> Nodes<D> {
             self.now self.now told.old told.new) }
         ensures want { IsOkUnless result Memory.Want }
     {
-        told.write(b"unroutable\n")
+        told.print(Printed::Unroutable)
     }
 
     /// Whether a pump follows each line of a client from here on.

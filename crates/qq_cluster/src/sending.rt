@@ -3,7 +3,7 @@ ghost use Rattle.std.specs.Prelude.{◌<◌, ◌-◌, All, IfErr, OnOk, length};
 ghost use Rattle.qq_cluster_model.specs.Cluster.{At, Setup};
 ghost use Rattle.qq_cluster_model.specs.Lines.{AndPumped, IsRouted};
 ghost use Rattle.qq_cluster_model.specs.Queue.{Fetches, Resends};
-ghost use Rattle.qq_cluster_model.specs.Rules.{ForEach, Is, IsGiven, IsResend, Tells};
+ghost use Rattle.qq_cluster_model.specs.Rules.{ForEach, Is, IsGiven, IsResend, Follows};
 ghost use Rattle.qq_queue.specs.Range.{MayStamp};
 ghost use Rattle.qq_cluster.specs.Nodes.{CanServe, GaveUp, IsQueueAt, Served};
 ghost use Rattle.qq_cluster.specs.Sending.{GivesTo, Sends, numbers_of};
@@ -136,10 +136,10 @@ impl<D: NodeDisk> Nodes<D> {
     ) -> Result<(), Memory>
         requires { CanServe D.facts self.old }
         ensures ok { OnOk result (Served D.facts
-            (λ (setup : Setup). ForEach setup.places (λ place. Tells place (Fetches session)))
+            (λ (setup : Setup). ForEach setup.places (λ place. Follows place (Fetches session)))
             self.old self.new told.old told.new) }
         ensures err { IfErr result (GaveUp D.facts
-            (λ (setup : Setup). ForEach setup.places (λ place. Tells place (Fetches session)))
+            (λ (setup : Setup). ForEach setup.places (λ place. Follows place (Fetches session)))
             self.old self.new) }
     {
         let count = self.queues.len();

@@ -10,12 +10,13 @@ ghost use Rattle.qq_cluster_model.specs.Cluster.{Cluster, Setup, Shows};
 ghost use Rattle.qq_cluster_model.specs.Queue.{audit_rows};
 ghost use Rattle.qq_cluster_model.specs.Rules.{Is};
 ghost use Rattle.qq_cluster.specs.Nodes.{CanServe, IsQueueAt, Served, Stands};
-ghost use Rattle.qq_cluster.specs.Showing.{has_queue, member_text, with_line};
+ghost use Rattle.qq_cluster.specs.Showing.{has_queue, member_at, with_printed};
 ghost use Rattle.qq_cluster.specs.declared.nodes.Nodes.{Nodes as Held};
 
 use crate::nodes::Nodes;
 use crate::told::Told;
 use qq_base::{Memory, QueueId};
+use qq_cluster_model::Printed;
 use qq_disk::NodeDisk;
 use qq_taker::Taker;
 use std::alloc::Global;
@@ -27,10 +28,9 @@ fn has_queue(queue: QueueId, queues: &[QueueId]) -> bool
 }
 
 impl<D: NodeDisk> Nodes<D> {
-    // Adds the state of a queue's member on a node, where it has one.
+    // The state of a queue's member on a node is printed, where it has one.
     fn show_member<T: Taker>(
         &self,
-        alloc: Global,
         queue: QueueId,
         at: usize,
         told: &mut Told<T>,
@@ -40,7 +40,7 @@ impl<D: NodeDisk> Nodes<D> {
         requires place { at < length self.now.nodes.items }
         ensures ok { OnOk result ((setup : Setup) (c : Cluster) →
             Stands D.facts setup self.now c →
-            told.new ≡ with_line (member_text setup c queue.0 (at + 1)) told.old) }
+            told.new ≡ with_printed (member_at setup c queue.0 (at + 1)) told.old) }
         ensures want { IsOkUnless result Memory.Want }
     {
         let node = self.node_id(at);
@@ -48,18 +48,17 @@ impl<D: NodeDisk> Nodes<D> {
         if !here {
             return Ok(());
         }
-        let mut line = Vec::new(alloc);
-        self.queues[queue.0 as usize - 1].state_text(alloc, node, &mut line)?;
-        told.write(line.as_slice())
+        let member = self.queues[queue.0 as usize - 1].member(node);
+        told.print(Printed::State {
+            place: queue.0,
+            node: node.0,
+            member,
+        })
     }
 
-    /// Adds the states of a queue's members, in order of their nodes. The only error is `Memory::Want`, out of memory.
-    pub fn show<T: Taker>(
-        &self,
-        alloc: Global,
-        queue: QueueId,
-        told: &mut Told<T>,
-    ) -> Result<(), Memory>
+    /// The states of a queue's members are printed, in order of their nodes. The only error is `Memory::Want`, out of
+    /// memory.
+    pub fn show<T: Taker>(&self, queue: QueueId, told: &mut Told<T>) -> Result<(), Memory>
         requires serve { CanServe D.facts self.now }
         requires queue { IsQueueAt queue self.now }
         ensures ok { OnOk result (Served D.facts (λ setup. Is (Shows queue.0))
@@ -68,7 +67,7 @@ impl<D: NodeDisk> Nodes<D> {
     {
         let count = self.nodes.len();
         'nodes: for at in 0..count {
-            self.show_member(alloc, queue, at, told)?;
+            self.show_member(queue, at, told)?;
         }
         Ok(())
     }

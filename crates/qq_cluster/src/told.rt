@@ -1,24 +1,25 @@
-//! What comes of a run outside of its queues.
-ghost use Rattle.std.specs.Prelude.{◌≡◌, ◌++◌, [], IfOk, OnErr, OnOk, IsOkUnless};
-ghost use Rattle.qq_cluster_model.specs.Outcome.{hear_some, heard_by};
+//! What comes of a run outside of its nodes.
+ghost use Rattle.std.specs.Prelude.{◌≡◌, ◌∷◌, [], IfOk, OnErr, OnOk, IsOkUnless};
+ghost use Rattle.qq_cluster_model.specs.declared.printed.Printed.TheVariants.{Of};
+ghost use Rattle.qq_cluster.specs.Showing.{with_printed};
 ghost use Rattle.qq_cluster.specs.Telling.{tell, tell_all, turns_then};
-ghost use Rattle.qq_taker.specs.Takers.{hear_on, heard_of, judge, listen, take_heard};
+ghost use Rattle.qq_taker.specs.Takers.{judge};
 
-use qq_base::{Memory, QueueId, Text};
+use qq_base::{Memory, QueueId};
+use qq_cluster_model::Printed;
 use qq_entry::Delivery;
-use qq_script::shown_text;
 use qq_session::Shown;
-use qq_taker::{Desk, Heard, Refusal, Taker, Verdict};
+use qq_taker::{Desk, Taker, Verdict};
 use std::alloc::Global;
 use std::marker::Model;
 use std::mem;
 
-/// What a run tells: its text, and the takers of consumers' deliveries.
+/// What a run tells: what it prints, as data, and the takers of consumers' deliveries.
 ///
-/// Contracts see the text so far, what each taker has seen, and what who listens has heard.
+/// Contracts see what was printed so far, and what each taker has seen.
 #[derive(Drop)]
 pub struct Told<T: Taker> {
-    text: Vec<u8>,
+    printed: Vec<Printed>,
     desk: Desk<T>,
 }
 
@@ -27,66 +28,55 @@ impl<T: Taker> Model for Told<T> {
 
     ghost Value = { Outcome };
 
-    ghost view = { λ t. record { text = t.text.items; takers = t.desk } };
+    ghost view = { λ t. record { printed = t.printed.items; takers = t.desk } };
 }
 
 impl<T: Taker> Told<T> {
     /// Nothing was told yet. It takes no memory.
     pub fn new(alloc: Global, desk: Desk<T>) -> Self
-        ensures { result ≡ record { text = []; takers = desk } }
+        ensures { result ≡ record { printed = []; takers = desk } }
     {
         Told {
-            text: Vec::new(alloc),
+            printed: Vec::new(alloc),
             desk,
         }
     }
 
-    /// This text was told already. It takes no memory.
-    pub fn over(text: Vec<u8>, desk: Desk<T>) -> Self
-        ensures { result ≡ record { text = text.items; takers = desk } }
+    /// This was printed already. It takes no memory.
+    pub fn over(printed: Vec<Printed>, desk: Desk<T>) -> Self
+        ensures { result ≡ record { printed = printed.items; takers = desk } }
     {
-        Told { text, desk }
+        Told { printed, desk }
     }
 
-    /// The text so far.
-    pub fn text(&self) -> &[u8]
-        ensures { result.now ≡ self.now.text }
+    /// What was printed so far.
+    pub fn printed(&self) -> &[Printed]
+        ensures { result.now ≡ self.now.printed }
     {
-        self.text.as_slice()
+        self.printed.as_slice()
     }
 
-    /// Adds to the text. Out of memory, all is as before.
-    pub fn write(&mut self, more: &[u8]) -> Result<(), Memory>
-        ensures ok { OnOk result (self.new
-            ≡ record self.old { text = self.old.text ++ more.now }) }
-        ensures err { OnErr result (self.new ≡ self.old) }
-        ensures want { IsOkUnless result Memory.Want }
+    /// Takes all that was printed out. The takers stay.
+    pub fn take_printed(&mut self, alloc: Global) -> Vec<Printed>
+        ensures printed { result.items ≡ self.old.printed }
+        ensures rest { self.new ≡ record self.old { printed = [] } }
     {
-        self.text.extend_from_slice(more)?;
-        Ok(())
+        mem::replace(&mut self.printed, Vec::new(alloc))
     }
 
-    /// Takes the whole text out. The takers stay.
-    pub fn take_text(&mut self, alloc: Global) -> Vec<u8>
-        ensures text { result.items ≡ self.old.text }
-        ensures rest { self.new ≡ record self.old { text = [] } }
-    {
-        mem::replace(&mut self.text, Vec::new(alloc))
-    }
-
-    /// Forgets the text. The takers stay.
+    /// Forgets what was printed. The takers stay.
     pub fn clear(&mut self)
-        ensures { self.new ≡ record self.old { text = [] } }
+        ensures { self.new ≡ record self.old { printed = [] } }
     {
-        self.text.clear();
+        self.printed.clear();
     }
 
-    /// The text, and the takers with what they have seen.
-    pub fn into_parts(self) -> (Vec<u8>, Desk<T>)
-        ensures text { result.0.items ≡ self.text }
+    /// What was printed, and the takers with what they have seen.
+    pub fn into_parts(self) -> (Vec<Printed>, Desk<T>)
+        ensures printed { result.0.items ≡ self.printed }
         ensures takers { result.1 ≡ self.takers }
     {
-        (self.text, self.desk)
+        (self.printed, self.desk)
     }
 
     /// The takers.
@@ -103,64 +93,13 @@ impl<T: Taker> Told<T> {
         self.desk
     }
 
-    /// From here on what is told is kept: answers, deliveries to consumers without a taker, and
-    /// that commands weren't given to a leader. What was kept before is dropped.
-    pub fn listen(&mut self, alloc: Global)
-        ensures { self.new ≡ record self.old { takers = listen self.old.takers } }
-    {
-        self.desk.listen(alloc);
-    }
-
-    /// What was kept, in order; what comes next is kept from here on. None exactly where nobody
-    /// listens.
-    pub fn take_heard(&mut self, alloc: Global) -> Option<Vec<Heard>>
-        ensures heard { heard_of result ≡ self.old.takers.heard }
-        ensures rest { self.new ≡ record self.old { takers = take_heard self.old.takers } }
-    {
-        self.desk.take_heard(alloc)
-    }
-
-    /// What comes next is kept after this list, and what was kept is handed out. None is as if
-    /// nobody listened.
-    pub fn hear_on(&mut self, list: Option<Vec<Heard>>) -> Option<Vec<Heard>>
-        ensures heard { heard_of result ≡ self.old.takers.heard }
-        ensures rest { self.new
-            ≡ record self.old { takers = hear_on (heard_of list) self.old.takers } }
-    {
-        self.desk.hear_on(list)
-    }
-
-    // Who listens hears what a queue shows, where it is for them.
-    fn hear(&mut self, alloc: Global, queue: QueueId, shown: &Shown) -> Result<(), Memory>
-        ensures ok { OnOk result (self.new ≡ record self.old {
-          takers = hear_some (heard_by queue.0 shown.now) self.old.takers;
-        }) }
+    /// Something is printed. Out of memory, all is as before.
+    pub(crate) fn print(&mut self, printed: Printed) -> Result<(), Memory>
+        ensures ok { OnOk result (self.new ≡ with_printed (printed ∷ []) self.old) }
+        ensures err { OnErr result (self.new ≡ self.old) }
         ensures want { IsOkUnless result Memory.Want }
     {
-        match shown {
-            Shown::Answered { row } => self.desk.hear_answer(alloc, queue, row)?,
-            Shown::Delivered { consumer, delivery } => {
-                self.desk.hear_delivery(alloc, queue, *consumer, delivery)?
-            }
-            Shown::NoLeader { session } => {
-                self.desk.hear_refusal(queue, *session, Refusal::NoLeader)?
-            }
-            Shown::WindowFull { session } => {
-                self.desk
-                    .hear_refusal(queue, *session, Refusal::WindowFull)?
-            }
-            Shown::HasEnded { session } => {
-                self.desk.hear_refusal(queue, *session, Refusal::Ended)?
-            }
-            Shown::NotTaken { session, id } => {
-                self.desk
-                    .hear_refusal(queue, *session, Refusal::NotTaken { id: *id })?
-            }
-            Shown::Attached { .. } => (),
-            Shown::IsBusy { .. } => (),
-            Shown::Taken { .. } => (),
-            Shown::Dropped { .. } => (),
-        }
+        self.printed.push(printed)?;
         Ok(())
     }
 
@@ -182,40 +121,23 @@ impl<T: Taker> Told<T> {
         }
     }
 
-    // What a queue of this name shows is told. `first` says that it is the cluster's first one.
-    fn tell(
-        &mut self,
-        alloc: Global,
-        first: bool,
-        queue: QueueId,
-        name: &Text,
-        shown: &Shown,
-    ) -> Result<(), Memory>
-        ensures ok { OnOk result (self.new
-            ≡ tell first queue.0 name.now shown.now self.old) }
+    // What a queue shows is told.
+    fn tell(&mut self, queue: QueueId, shown: Shown) -> Result<(), Memory>
+        ensures ok { OnOk result (self.new ≡ tell queue.0 shown self.old) }
         ensures want { IsOkUnless result Memory.Want }
     {
-        shown_text(alloc, first, name, shown, &mut self.text)?;
-        self.turn(shown);
-        self.hear(alloc, queue, shown)?;
-        Ok(())
+        self.turn(&shown);
+        let place = queue.0;
+        self.print(Printed::Of { place, shown })
     }
 
-    /// What a queue of this name shows is told, in order. `first` says that it is the cluster's first one.
-    pub(crate) fn tell_all(
-        &mut self,
-        alloc: Global,
-        first: bool,
-        queue: QueueId,
-        name: &Text,
-        list: &[Shown],
-    ) -> Result<(), Memory>
-        ensures ok { OnOk result (self.new
-            ≡ tell_all first queue.0 name.now list.now self.old) }
+    /// What a queue shows is told, in order.
+    pub(crate) fn tell_all(&mut self, queue: QueueId, list: Vec<Shown>) -> Result<(), Memory>
+        ensures ok { OnOk result (self.new ≡ tell_all queue.0 list.items self.old) }
         ensures want { IsOkUnless result Memory.Want }
     {
         'list: for shown in list {
-            self.tell(alloc, first, queue, name, shown)?;
+            self.tell(queue, shown)?;
         }
         Ok(())
     }

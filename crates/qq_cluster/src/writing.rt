@@ -1,19 +1,20 @@
 //! What waits at a node is written to its log, and synced.
-ghost use Rattle.std.specs.Prelude.{◌≡◌, ◌++◌, ◌-◌, All, IfErr, IsOkUnless, OnErr, OnOk, codes};
-ghost use Rattle.std.specs.Fmt.{decimal};
+ghost use Rattle.std.specs.Prelude.{◌≡◌, ◌∷◌, [], ◌-◌, All, IfErr, IsOkUnless, OnErr, OnOk};
 ghost use Rattle.qq_cluster_model.specs.Cluster.{Setup};
 ghost use Rattle.qq_cluster_model.specs.Rules.{IsSync, IsWrite};
+ghost use Rattle.qq_cluster_model.specs.declared.printed.Printed.TheVariants.{Stopped};
 ghost use Rattle.qq_queue.specs.Members.{AreSound};
 ghost use Rattle.qq_queue.specs.declared.cluster_queue.ClusterQueue.{ClusterQueue as Queue};
 ghost use Rattle.qq_cluster.specs.Nodes.{CanServe, GaveUp, IsNodeAt, Served};
-ghost use Rattle.qq_cluster.specs.Showing.{with_line};
+ghost use Rattle.qq_cluster.specs.Showing.{with_printed};
 ghost use Rattle.qq_cluster.specs.Turning.{HasStopped};
 
 use crate::logs::{append_in, down_in, sync_in};
-use crate::nodes::{Nodes, add_node_line};
+use crate::nodes::Nodes;
 use crate::told::Told;
 use qq_base::{Memory, NodeId};
 use qq_cluster_laws::what_waits_goes_on;
+use qq_cluster_model::Printed;
 use qq_disk::NodeDisk;
 use qq_node_log::SyncOutcome;
 use qq_taker::Taker;
@@ -23,10 +24,10 @@ impl<D: NodeDisk> Nodes<D> {
     /// A call of a node's disk has failed.
     pub fn say_stopped<T: Taker>(&self, node: NodeId, told: &mut Told<T>) -> Result<(), Memory>
         ensures ok { OnOk result (told.new
-            ≡ with_line (codes "node " ++ decimal node.0 ++ codes " stopped\n") told.old) }
+            ≡ with_printed (Stopped node.0 ∷ []) told.old) }
         ensures want { IsOkUnless result Memory.Want }
     {
-        add_node_line("node ", node, " stopped\n", told)
+        told.print(Printed::Stopped { node: node.0 })
     }
 
     // A node is down from here on, and so are its members.
@@ -50,7 +51,7 @@ impl<D: NodeDisk> Nodes<D> {
         requires sound { All (λ (d : Queue). AreSound d.group) self.old.queues.items }
         ensures ok { OnOk result (HasStopped node.0 self.old self.new) }
         ensures says { OnOk result (told.new
-            ≡ with_line (codes "node " ++ decimal node.0 ++ codes " stopped\n") told.old) }
+            ≡ with_printed (Stopped node.0 ∷ []) told.old) }
         ensures err { OnErr result (self.new ≡ self.old) }
         ensures want { IsOkUnless result Memory.Want }
     {

@@ -15,7 +15,9 @@ use Rattle.qq_raft_model.specs.Promises.{whole_audit}
 use Rattle.qq_raft_protocol.specs.Facts.{add}
 use Rattle.qq_raft_protocol.proofs.Majorities.{Most-map}
 use Rattle.qq_session.specs.declared.shown.Shown.TheVariants.{Answered, Delivered, NoLeader, WindowFull, HasEnded, NotTaken, Attached, IsBusy, Taken, Dropped}
-use Rattle.qq_cluster_model.specs.Cluster.{Cluster, ClusterEvent, Setup, Printed, Of, Stopped, IsDown, NoSuch, Unroutable, Busy, Ended, State as StateOf, all_prints, cluster_after, new_cluster}
+use Rattle.qq_cluster_model.specs.Cluster.{Cluster, ClusterEvent, Setup, all_prints, cluster_after, new_cluster}
+use Rattle.qq_cluster_model.specs.declared.printed.Printed.{Printed}
+use Rattle.qq_cluster_model.specs.declared.printed.Printed.TheVariants.{Of, Stopped, IsDown, NoSuch, Unroutable, Busy, Ended, State as StateOf}
 use Rattle.qq_cluster_model.specs.ClusterLaws.{HasGroups, IsTrueOf, PrintsWhatIsTrue}
 use Rattle.qq_cluster_model.specs.Queue.{Queue}
 use Rattle.qq_cluster_laws.specs.Answers.{HasMajority, IsKept, KeepsAnswers}

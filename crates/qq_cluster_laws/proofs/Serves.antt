@@ -8,11 +8,11 @@ use Rattle.qq_disk.specs.Disk.{Disk, now}
 use Rattle.qq_disk.specs.Moments.{Adds}
 use Rattle.qq_disk.proofs.Moments.{adds-none}
 use Rattle.qq_raft_protocol.specs.Facts.{In}
-use Rattle.qq_cluster_model.specs.Cluster.{Cluster, ClusterEvent, Setup, Sets, Alike, At, NodeWrites, NodeSyncs, Fails, Crashes, FindsEach, Shows, SaysDown, SaysNoSuch, SaysUnroutable, SaysBusy, SaysEnded, cluster_after, cluster_happens}
+use Rattle.qq_cluster_model.specs.Cluster.{Cluster, ClusterEvent, Setup, Sets, Alike, At, NodeWrites, NodeSyncs, Fails, Crashes, FindsEach, Shows, SaysDown, SaysNoSuch, SaysUnroutable, SaysBusy, SaysEnded, all_prints, cluster_after, cluster_happens}
+use Rattle.qq_cluster_model.specs.declared.printed.Printed.{Printed}
 use Rattle.qq_cluster_model.specs.Rules.{Then}
 use Rattle.qq_cluster_model.specs.Outcome.{Outcome, takers_after}
-use Rattle.qq_cluster_model.specs.Texts.{text_of}
-use Rattle.qq_cluster_model.proofs.Outcomes.{takers-both, text-both}
+use Rattle.qq_cluster_model.proofs.Outcomes.{prints-both, takers-both}
 use Rattle.qq_cluster_laws.specs.Linked.{IsLinked, IsPromised, IsReached}
 use Rattle.qq_cluster_laws.specs.Serves.{GivesUp, Happened, Leads, Seen, Serves, fails_at, is_failure_at}
 use Rattle.qq_cluster_laws.specs.Traced.{HasNoCrash, IsBrokenAt, IsNoCrash, IsPromisedSince, IsTracedAt, KeepsWhere, TracesTo}
@@ -58,9 +58,10 @@ happened-both setup c First Second Whole Mid Last a m b before mid later s t who
   events = s.events ++ t.events;
   means = whole;
   stands = subst Last (sym (after-both c s.events t.events)) t.stands;
-  says = t.says ∙ ap (λ (l : List ℕ). l ++ text_of setup (cluster_after c s.events) t.events) s.says
-      ∙ append_assoc before.text (text_of setup c s.events) (text_of setup (cluster_after c s.events) t.events)
-      ∙ ap (λ (l : List ℕ). before.text ++ l) (sym (text-both setup c s.events t.events));
+  says = t.says ∙ ap (λ (l : List Printed). l ++ all_prints setup (cluster_after c s.events) t.events) s.says
+      ∙ append_assoc before.printed (all_prints setup c s.events)
+      (all_prints setup (cluster_after c s.events) t.events)
+      ∙ ap (λ (l : List Printed). before.printed ++ l) (sym (prints-both setup c s.events t.events));
   sees = t.sees ∙ ap (takers_after setup (cluster_after c s.events) t.events) s.sees
       ∙ sym (takers-both setup c s.events t.events before.takers);
   told = λ k. t.told k ∙ s.told k;
@@ -139,7 +140,7 @@ serves-weaker setup c Allowed More Stands Holds a b before later rule holds s = 
 
 -- what one event shows was added
 pub record ShowsOne (setup : Setup) (c : Cluster) (event : ClusterEvent) (before later : Outcome) : Type 0 where
-  pub text : later.text ≡ before.text ++ text_of setup c (event ∷ [])
+  pub printed : later.printed ≡ before.printed ++ all_prints setup c (event ∷ [])
   pub takers : later.takers ≡ takers_after setup c (event ∷ []) before.takers
 
 -- nothing happened, and the disks are as they were
@@ -150,7 +151,7 @@ serves-nothing setup c Allowed Stands a now' allowed stands = record {
     events = [];
     means = allowed;
     stands = stands;
-    says = sym (append-nil now'.text);
+    says = sym (append-nil now'.printed);
     sees = refl;
     told = λ k. refl;
     moments = λ k node tells linked. traced-none setup c k (a k).past linked;
@@ -256,7 +257,7 @@ module _ (setup : Setup) (c : Cluster) (k : ℕ) (event : ClusterEvent) (a b : �
     events = event ∷ [];
     means = allowed;
     stands = stands;
-    says = shown.text;
+    says = shown.printed;
     sees = shown.takers;
     told = all-told;
     moments = all-traced IsLinked (λ d j e linked. linked) moments;
@@ -303,7 +304,7 @@ serves-unseen setup c event Allowed Stands a before later none allowed stands sh
     events = event ∷ [];
     means = allowed;
     stands = stands;
-    says = shown.text;
+    says = shown.printed;
     sees = shown.takers;
     told = λ k. refl;
     moments = λ k node tells linked. unseen-traced setup c k event (a k).past (unseen k) linked;
@@ -369,14 +370,14 @@ abbrev ByEvents : Setup → Cluster → Cluster → List ClusterEvent → (ℕ �
 ByEvents setup c last done a b before later =
     Serves setup c (λ (events : List ClusterEvent). events ≡ done) (λ (d : Cluster). d ≡ last) a b before later
 
-pub happened-text : (setup : Setup) (c last : Cluster) (done : List ClusterEvent) (a b : ℕ → Seen)
+pub happened-outcome : (setup : Setup) (c last : Cluster) (done : List ClusterEvent) (a b : ℕ → Seen)
     (before later : Outcome)
     → Happened setup c (λ (events : List ClusterEvent). events ≡ done) (λ (d : Cluster). d ≡ last) a b before later
-    → (last ≡ cluster_after c done) × (later.text ≡ before.text ++ text_of setup c done)
+    → (last ≡ cluster_after c done) × (later.printed ≡ before.printed ++ all_prints setup c done)
     × (later.takers ≡ takers_after setup c done before.takers)
-happened-text setup c last done a b before later s = (
+happened-outcome setup c last done a b before later s = (
   sym s.stands ∙ ap (cluster_after c) s.means,
-  s.says ∙ ap (λ (l : List ClusterEvent). before.text ++ text_of setup c l) s.means,
+  s.says ∙ ap (λ (l : List ClusterEvent). before.printed ++ all_prints setup c l) s.means,
   s.sees ∙ ap (λ (l : List ClusterEvent). takers_after setup c l before.takers) s.means,
 )
 

@@ -7,7 +7,9 @@ use Rattle.qq_raft_model.specs.Promises.{members_of}
 use Rattle.qq_raft_protocol.specs.Facts.{Most}
 use Rattle.qq_raft_protocol.specs.World.{Lane}
 use Rattle.qq_session.specs.declared.shown.Shown.TheVariants.{Answered}
-use Rattle.qq_cluster_model.specs.Cluster.{ClusterEvent, Printed, Of, Setup, all_prints, members, new_cluster}
+use Rattle.qq_cluster_model.specs.Cluster.{ClusterEvent, Setup, all_prints, members, new_cluster}
+use Rattle.qq_cluster_model.specs.declared.printed.Printed.{Printed}
+use Rattle.qq_cluster_model.specs.declared.printed.Printed.TheVariants.{Of}
 use Rattle.qq_cluster_laws.specs.Held.{MayHold}
 
 -- a majority of a queue's members have an entry in their logs, whatever crashes leave of the disks now

@@ -5,9 +5,8 @@ use Rattle.qq_base.specs.Causes.{Rose}
 use Rattle.qq_disk.specs.Disk.{Disk, now}
 use Rattle.qq_disk.specs.Facts.{DiskFacts}
 use Rattle.qq_raft_protocol.specs.Facts.{In}
-use Rattle.qq_cluster_model.specs.Cluster.{Cluster, ClusterEvent, Setup, Fails, cluster_after}
+use Rattle.qq_cluster_model.specs.Cluster.{Cluster, ClusterEvent, Setup, Fails, all_prints, cluster_after}
 use Rattle.qq_cluster_model.specs.Outcome.{Outcome, takers_after}
-use Rattle.qq_cluster_model.specs.Texts.{text_of}
 use Rattle.qq_cluster_laws.specs.Linked.{IsLinked}
 use Rattle.qq_cluster_laws.specs.Traced.{HasNoCrash, IsBrokenAt, IsTracedAt}
 
@@ -28,14 +27,14 @@ is_failure_at k _ = false
 abbrev pub fails_at : ℕ → List ClusterEvent → Bool
 fails_at k events = list_any (is_failure_at k) events
 
--- Some events happened, which the rule allows: the cluster is as they leave it, what they print was added to the text, takers
--- saw what they show, and each node's disk was at each moment what they say, where its log was linked before.
+-- Some events happened, which the rule allows: the cluster is as they leave it, what they print was added, takers saw
+-- what they show, and each node's disk was at each moment what they say, where its log was linked before.
 pub record Happened (setup : Setup) (c : Cluster) (Allowed : List ClusterEvent → Type 0) (Stands : Cluster → Type 0)
     (a b : ℕ → Seen) (before later : Outcome) : Type 0 where
   pub events : List ClusterEvent
   pub means : Allowed events
   pub stands : Stands (cluster_after c events)
-  pub says : later.text ≡ before.text ++ text_of setup c events
+  pub says : later.printed ≡ before.printed ++ all_prints setup c events
   pub sees : later.takers ≡ takers_after setup c events before.takers
   pub told : (k : ℕ) → (b k).tells ≡ (a k).tells
   pub moments : (k : ℕ) → In k setup.nodes → IsTrue (a k).tells → IsLinked setup c k (now (a k).past)

@@ -4,10 +4,9 @@ ghost use Rattle.qq_base.specs.Causes.{Rose};
 ghost use Rattle.qq_disk.specs.Disk.{Disk, now};
 ghost use Rattle.qq_disk.specs.Moments.{Adds};
 ghost use Rattle.qq_raft_protocol.specs.Facts.{In};
-ghost use Rattle.qq_cluster_model.specs.Cluster.{Cluster, ClusterEvent, Setup, cluster_after, new_cluster};
+ghost use Rattle.qq_cluster_model.specs.Cluster.{Cluster, ClusterEvent, Setup, all_prints, cluster_after, new_cluster};
 ghost use Rattle.qq_cluster_model.specs.ClusterLaws.{HasGroups};
 ghost use Rattle.qq_cluster_model.specs.Outcome.{Outcome, takers_after};
-ghost use Rattle.qq_cluster_model.specs.Texts.{text_of};
 ghost use Rattle.qq_cluster_laws.specs.Answers.{KeepsAnswers};
 ghost use Rattle.qq_cluster_laws.specs.Linked.{IsLinked, IsPromised};
 ghost use Rattle.qq_cluster_laws.specs.Serves.{GivesUp, Happened, Seen, Serves, fails_at};
@@ -19,14 +18,15 @@ use qq_raft_model::{the_disks_support_the_audit, what_a_group_committed_stays};
 
 /// A law: of a call by which these events happened, so that this cluster stands.
 ///
-/// - `text`: the cluster is as they leave it, what they print was added to the text, and takers saw what they show.
+/// - `outcome`: the cluster is as they leave it, what they print was added, and takers saw what they show.
 /// - `disks`: a disk shows its contents exactly where it did before. Where it does, and its log was linked, the events
 ///   are traced on it.
 pub fn what_happened_is_on_the_disks()
-    ensures text { (setup : Setup) (c last : Cluster) (done : List ClusterEvent) (a b : ℕ → Seen)
+    ensures outcome { (setup : Setup) (c last : Cluster) (done : List ClusterEvent) (a b : ℕ → Seen)
         (before later : Outcome) →
         Happened setup c (λ events. events ≡ done) (λ d. d ≡ last) a b before later →
-        (last ≡ cluster_after c done) × (later.text ≡ before.text ++ text_of setup c done)
+        (last ≡ cluster_after c done)
+        × (later.printed ≡ before.printed ++ all_prints setup c done)
         × (later.takers ≡ takers_after setup c done before.takers) }
     ensures disks { (setup : Setup) (c last : Cluster) (done : List ClusterEvent) (a b : ℕ → Seen)
         (before later : Outcome) (k : ℕ) →

@@ -21,7 +21,9 @@ use Rattle.qq_session.specs.Answered.{IsAnswered}
 use Rattle.qq_session.specs.Printed.{IsAudited, IsConfirmedOnce}
 use Rattle.qq_session.specs.declared.shown.Shown.{Shown}
 use Rattle.qq_session.proofs.AuditRows.{filter_map-append}
-use Rattle.qq_cluster_model.specs.Cluster.{Setup, Cluster, ClusterEvent, MutesEach, EndsEach, Sets, Alike, At, NodeWrites, NodeSyncs, Fails, Crashes, FindsEach, Shows, SaysDown, SaysNoSuch, SaysUnroutable, SaysBusy, SaysEnded, Printed, Of, Stopped, IsDown, NoSuch, Unroutable, Busy, Ended, State, new_cluster, cluster_happens, cluster_after, part_of, parts_of, members_in_order, state_at, prints, all_prints}
+use Rattle.qq_cluster_model.specs.Cluster.{Setup, Cluster, ClusterEvent, MutesEach, EndsEach, Sets, Alike, At, NodeWrites, NodeSyncs, Fails, Crashes, FindsEach, Shows, SaysDown, SaysNoSuch, SaysUnroutable, SaysBusy, SaysEnded, new_cluster, cluster_happens, cluster_after, part_of, parts_of, members_in_order, state_at, prints, all_prints}
+use Rattle.qq_cluster_model.specs.declared.printed.Printed.{Printed}
+use Rattle.qq_cluster_model.specs.declared.printed.Printed.TheVariants.{Of, Stopped, IsDown, NoSuch, Unroutable, Busy, Ended, State}
 use Rattle.qq_cluster_model.specs.ClusterLaws.{HasGroups, HasItsQueues, IsTrueOf, PrintsInOrder, PrintsOfItsQueues, PrintsWhatIsTrue, shown_at, shown_of}
 use Rattle.qq_cluster_model.specs.Laws.{IsMade, deliveries_shown, queue_after}
 use Rattle.qq_cluster_model.specs.Queue.{Queue, Event, Mutes, Ends, Writes, Syncs, Stops, Finds, after, all_said, audit_rows, begin, happens, said}

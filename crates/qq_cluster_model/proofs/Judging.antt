@@ -9,7 +9,7 @@ use Rattle.qq_cluster_model.specs.Cluster.{Setup, Cluster, ClusterEvent, Sets, A
 use Rattle.qq_cluster_model.specs.ClusterLaws.{LeavesNothingWaiting, NothingWaits}
 use Rattle.qq_cluster_model.specs.Lines.{publish_with, IsRouted, IsSend, WhereUp, nodes_of, receiver_at, IsDelivered, WhereThere, IsDeliver, IsLose, IsCopy, AndPumped, IsLine, IsScript, IsRun}
 use Rattle.qq_cluster_model.specs.Queue.{Queue, Event, Attaches, Resends, Fetches, Downs, Ticks, Delivers, Loses, Copies, Notices}
-use Rattle.qq_cluster_model.specs.Rules.{Rule, IsNothing, Is, Then, if_so, ForEach, Times, some_queue, waits_written, waits_synced, waits_noticed, IsWritten, IsWrite, MayRoll, IsSynced, IsSync, IsNotice, IsNodeRound, IsEmptied, IsRound, is_idle, Pumps, most_rounds, IsPump, IsPumped, is_ended, IsGiven, IsResend, IsEnd, IsFound, IsRestart, tick_at, IsFirstTick, IsOpening, Tells}
+use Rattle.qq_cluster_model.specs.Rules.{Rule, IsNothing, Is, Then, if_so, ForEach, Times, some_queue, waits_written, waits_synced, waits_noticed, IsWritten, IsWrite, MayRoll, IsSynced, IsSync, IsNotice, IsNodeRound, IsEmptied, IsRound, is_idle, Pumps, most_rounds, IsPump, IsPumped, is_ended, IsGiven, IsResend, IsEnd, IsFound, IsRestart, tick_at, IsFirstTick, IsOpening, Follows}
 use Rattle.qq_cluster_model.proofs.Handing.{HandsNothing}
 use Rattle.qq_cluster_model.proofs.Outcomes.{cluster-append}
 use Rattle.qq_cluster_model.proofs.Quiet.{IsQuiet, Quiet, elsewhere, quiet-all, quiet-given, quiet-if, quiet-is, quiet-nothing, told-all}
@@ -53,7 +53,7 @@ leaves-times : (n : ℕ) (Each : Rule) → Leaves Each → Leaves (Times n Each)
 leaves-times zero Each each = leaves-nothing
 leaves-times (suc n) Each each = leaves-then Each (Times n Each) each (leaves-times n Each each)
 
-leaves-tells : (place : ℕ) (event : Event) → Leaves (Tells place event)
+leaves-tells : (place : ℕ) (event : Event) → Leaves (Follows place event)
 leaves-tells place event c events none is =
     let d : Cluster = cluster_after c is.early in
     subst (λ (es : List ClusterEvent). NothingWaits (cluster_after c es)) (sym is.is)
@@ -95,7 +95,7 @@ leaves-sync setup k c =
 
 leaves-notice : (k place : ℕ) → Leaves (IsNotice k place)
 leaves-notice k place c =
-    leaves-if (c.up k && waits_noticed k (c.queue place)) (Tells place (Notices k)) IsNothing c
+    leaves-if (c.up k && waits_noticed k (c.queue place)) (Follows place (Notices k)) IsNothing c
     (leaves-tells place (Notices k) c) (leaves-nothing c)
 
 leaves-node : (setup : Setup) (k : ℕ) → Leaves (IsNodeRound setup k)
@@ -106,7 +106,7 @@ leaves-node setup k =
 
 leaves-emptied : (place : ℕ) → Leaves (IsEmptied place)
 leaves-emptied place c =
-    leaves-times (length (c.queue place).group.bag) (Tells place (Delivers 0)) (leaves-tells place (Delivers 0)) c
+    leaves-times (length (c.queue place).group.bag) (Follows place (Delivers 0)) (leaves-tells place (Delivers 0)) c
 
 leaves-round : (setup : Setup) → Leaves (IsRound setup)
 leaves-round setup =
@@ -147,12 +147,12 @@ leaves-send setup session exchange key body =
 leaves-resend : (setup : Setup) (session : ℕ) → Leaves (IsResend setup session)
 leaves-resend setup session c =
     let sends : Rule = ForEach setup.places (λ place. Is (At place (Resends session))) in
-    let asks : Rule = ForEach setup.places (λ place. Tells place (Fetches session)) in
+    let asks : Rule = ForEach setup.places (λ place. Follows place (Fetches session)) in
     leaves-if (some_queue setup (is_ended session) c) (Is SaysEnded) (Then sends asks) c (leaves-is SaysEnded tt c)
     (leaves-then sends asks
     (leaves-each setup.places (λ place. Is (At place (Resends session)))
     (λ place. leaves-is (At place (Resends session)) tt))
-    (leaves-each setup.places (λ place. Tells place (Fetches session))
+    (leaves-each setup.places (λ place. Follows place (Fetches session))
     (λ place. leaves-tells place (Fetches session))) c)
 
 leaves-end : (setup : Setup) (session : ℕ) → Leaves (IsEnd setup session)
@@ -179,7 +179,7 @@ leaves-restart setup k c =
 leaves-delivered : (place at : ℕ) (o : Option ℕ) → Leaves (IsDelivered place at o)
 leaves-delivered place at None = leaves-is SaysNoSuch tt
 leaves-delivered place at (Some k) =
-    leaves-then (Tells place (Delivers at)) (λ c. if_so (c.up k) IsNothing (Is (SaysDown k)) c)
+    leaves-then (Follows place (Delivers at)) (λ c. if_so (c.up k) IsNothing (Is (SaysDown k)) c)
     (leaves-tells place (Delivers at))
     (λ c. leaves-if (c.up k) IsNothing (Is (SaysDown k)) c (leaves-nothing c) (leaves-is (SaysDown k) tt c))
 
@@ -220,7 +220,7 @@ line-leaves setup lines.Pump = leaves-pump setup
 line-leaves setup (lines.Write node) = leaves-up node.0 (IsWrite setup node.0) (leaves-write setup node.0)
 line-leaves setup (lines.Sync node) = leaves-up node.0 (IsSync setup node.0) (leaves-sync setup node.0)
 line-leaves setup (lines.Notice node at) =
-    leaves-up node.0 (Tells at.0 (Notices node.0)) (leaves-tells at.0 (Notices node.0))
+    leaves-up node.0 (Follows at.0 (Notices node.0)) (leaves-tells at.0 (Notices node.0))
 line-leaves setup (lines.Tick node at) =
     leaves-up node.0 (Is (At at.0 (Ticks node.0))) (leaves-is (At at.0 (Ticks node.0)) tt)
 line-leaves setup (lines.Deliver at message) = leaves-deliver at.0 message

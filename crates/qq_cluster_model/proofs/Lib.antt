@@ -21,7 +21,6 @@ mod Judging
 mod Seating
 mod TakerSees
 mod TakerRuns
-mod Listening
 mod Serving
 mod Stopping
 mod Worked

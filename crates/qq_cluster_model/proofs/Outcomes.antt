@@ -4,7 +4,9 @@ use Rattle.std.specs.List.{flat_map}
 use Rattle.std.proofs.lemmas.Grind.{flat_map-append}
 use Rattle.qq_session.specs.declared.shown.Shown.{Shown}
 use Rattle.qq_taker.specs.Takers.{Takers}
-use Rattle.qq_cluster_model.specs.Cluster.{Cluster, ClusterEvent, At, Of, Printed, Setup, all_prints, cluster_after, cluster_happens, prints}
+use Rattle.qq_cluster_model.specs.Cluster.{Cluster, ClusterEvent, At, Setup, all_prints, cluster_after, cluster_happens, prints}
+use Rattle.qq_cluster_model.specs.declared.printed.Printed.{Printed}
+use Rattle.qq_cluster_model.specs.declared.printed.Printed.TheVariants.{Of}
 use Rattle.qq_cluster_model.specs.Outcome.{sees, sees_all, sees_printed, sees_prints, takers_after}
 use Rattle.qq_cluster_model.specs.Queue.{Event, said}
 use Rattle.qq_cluster_model.specs.Texts.{printed_text, text_of}
@@ -31,10 +33,9 @@ text-both setup c events others =
 
 -- ---- takers
 
-pub sees_all-append : (place : ℕ) (xs ys : List Shown) (all : Takers)
-    → sees_all place (xs ++ ys) all ≡ sees_all place ys (sees_all place xs all)
-sees_all-append place [] ys all = refl
-sees_all-append place (x ∷ xs) ys all = sees_all-append place xs ys (sees place x all)
+pub sees_all-append : (xs ys : List Shown) (all : Takers) → sees_all (xs ++ ys) all ≡ sees_all ys (sees_all xs all)
+sees_all-append [] ys all = refl
+sees_all-append (x ∷ xs) ys all = sees_all-append xs ys (sees x all)
 
 pub sees_prints-append : (xs ys : List Printed) (all : Takers)
     → sees_prints (xs ++ ys) all ≡ sees_prints ys (sees_prints xs all)
@@ -43,9 +44,9 @@ sees_prints-append (x ∷ xs) ys all = sees_prints-append xs ys (sees_printed x 
 
 -- takers see what is shown of one queue
 pub sees-of : (place : ℕ) (shown : List Shown) (all : Takers)
-    → sees_prints (map (Of place) shown) all ≡ sees_all place shown all
+    → sees_prints (map (Of place) shown) all ≡ sees_all shown all
 sees-of place [] all = refl
-sees-of place (x ∷ xs) all = sees-of place xs (sees place x all)
+sees-of place (x ∷ xs) all = sees-of place xs (sees x all)
 
 pub takers-both : (setup : Setup) (c : Cluster) (events others : List ClusterEvent) (all : Takers)
     → takers_after setup c (events ++ others) all
@@ -58,7 +59,7 @@ takers-both setup c events others all =
 
 -- what one event of a queue is to the takers
 pub takers-at : (setup : Setup) (c : Cluster) (place : ℕ) (event : Event) (all : Takers)
-    → takers_after setup c (At place event ∷ []) all ≡ sees_all place (said (c.queue place) event) all
+    → takers_after setup c (At place event ∷ []) all ≡ sees_all (said (c.queue place) event) all
 takers-at setup c place event all =
     ap (λ (l : List Printed). sees_prints l all) (append-nil (map (Of place) (said (c.queue place) event)))
     ∙ sees-of place (said (c.queue place) event) all

@@ -24,7 +24,7 @@ use Rattle.qq_cluster_model.specs.Cluster.{Setup, Cluster, ClusterEvent, Sets, A
 use Rattle.qq_cluster_model.specs.ClusterLaws.{HasGroups, IsServedBy, has_failure}
 use Rattle.qq_cluster_model.specs.Lines.{AndPumped, IsCopy, IsDeliver, IsDelivered, IsLine, IsLose, IsRouted, IsScript, IsSend, WhereThere, WhereUp, nodes_of, publish_with, receiver_at}
 use Rattle.qq_cluster_model.specs.Queue.{Queue, Event, Mutes, Ends, Submits, TellsEnded, TellsNotTaken, Attaches, Judges, Resends, Fetches, Downs, Ticks, Delivers, Loses, Copies, Writes, Syncs, Notices, Stops, Finds, after, happens, leader, moves, offered, submits, waiting}
-use Rattle.qq_cluster_model.specs.Rules.{Rule, ForEach, Is, IsEmptied, IsEnd, IsFirstTick, IsFound, IsGiven, IsNodeRound, IsNothing, IsNotice, IsOpening, IsPump, IsPumped, IsResend, IsRestart, IsRound, IsSync, IsSynced, IsWrite, IsWritten, MayRoll, Pumps, Then, if_so, is_ended, is_idle, may_find, most_rounds, some_queue, tick_at, waits_noticed, waits_synced, waits_written, IsClaimed, not_taken, Times, IsJudgedWhere, IsNextJudged, IsTold, Tells}
+use Rattle.qq_cluster_model.specs.Rules.{Rule, ForEach, Is, IsEmptied, IsEnd, IsFirstTick, IsFound, IsGiven, IsNodeRound, IsNothing, IsNotice, IsOpening, IsPump, IsPumped, IsResend, IsRestart, IsRound, IsSync, IsSynced, IsWrite, IsWritten, MayRoll, Pumps, Then, if_so, is_ended, is_idle, may_find, most_rounds, some_queue, tick_at, waits_noticed, waits_synced, waits_written, IsClaimed, not_taken, Times, IsJudgedWhere, IsNextJudged, IsTold, Follows}
 use Rattle.qq_cluster_model.specs.Serving as does
 use Rattle.qq_cluster_model.proofs.Counts.{IsCounted, counted-all, counted-new}
 
@@ -320,7 +320,7 @@ serve-tell place c sound =
     serve-times (length (c.queue place).untold) (IsNextJudged place) (does.keep_next place)
     (λ d _. serve-keep place (d.queue place).untold d) c sound
 
-serve-tells : (event : Event) → FindsNothing event → (place : ℕ) → Serves (Tells place event) (does.tells place event)
+serve-tells : (event : Event) → FindsNothing event → (place : ℕ) → Serves (Follows place event) (does.tells place event)
 serve-tells event calm place =
     serve-both (Is (At place event)) (IsTold place) (does.one (At place event)) (does.tell place)
     (λ c _. serve-one (At place event) calm c) (serve-tell place)
@@ -342,7 +342,7 @@ serve-sync setup k c sound =
 
 serve-notice : (k place : ℕ) → Serves (IsNotice k place) (does.notice k place)
 serve-notice k place c sound =
-    serve-if (c.up k && waits_noticed k (c.queue place)) (Tells place (Notices k)) IsNothing c
+    serve-if (c.up k && waits_noticed k (c.queue place)) (Follows place (Notices k)) IsNothing c
     (does.tells place (Notices k) c) [] (λ _. serve-tells (Notices k) tt place c sound) (λ _. serve-nothing c)
 
 serve-node : (setup : Setup) (k : ℕ) → Serves (IsNodeRound setup k) (does.node_round setup k)
@@ -355,7 +355,7 @@ serve-node setup k =
 
 serve-empty : (place : ℕ) → Serves (IsEmptied place) (does.empty place)
 serve-empty place c sound =
-    serve-times (length (c.queue place).group.bag) (Tells place (Delivers 0)) (does.tells place (Delivers 0))
+    serve-times (length (c.queue place).group.bag) (Follows place (Delivers 0)) (does.tells place (Delivers 0))
     (serve-tells (Delivers 0) tt place) c sound
 
 serve-round : (setup : Setup) → Serves (IsRound setup) (does.round setup)
@@ -418,7 +418,7 @@ serve-at event calm place c sound = serve-one (At place event) calm c
 serve-resend : (setup : Setup) (session : ℕ) → Serves (IsResend setup session) (does.resend setup session)
 serve-resend setup session c sound =
     let sends : Rule = ForEach setup.places (λ place. Is (At place (Resends session))) in
-    let asks : Rule = ForEach setup.places (λ place. Tells place (Fetches session)) in
+    let asks : Rule = ForEach setup.places (λ place. Follows place (Fetches session)) in
     let sending : does.Doing = does.each setup.places (λ place. does.one (At place (Resends session))) in
     let asking : does.Doing = does.each setup.places (λ place. does.tells place (Fetches session)) in
     serve-if (some_queue setup (is_ended session) c) (Is SaysEnded) (Then sends asks) c (SaysEnded ∷ [])
@@ -426,7 +426,7 @@ serve-resend setup session c sound =
     (λ _. serve-both sends asks sending asking
     (serve-each setup.places (λ place. Is (At place (Resends session)))
     (λ place. does.one (At place (Resends session))) (serve-at (Resends session) tt))
-    (serve-each setup.places (λ place. Tells place (Fetches session)) (λ place. does.tells place (Fetches session))
+    (serve-each setup.places (λ place. Follows place (Fetches session)) (λ place. does.tells place (Fetches session))
     (serve-tells (Fetches session) tt)) c sound)
 
 serve-end : (setup : Setup) (session : ℕ) → Serves (IsEnd setup session) (does.finish setup session)
@@ -488,7 +488,7 @@ serve-restart setup k c sound =
 serve-delivered : (place at : ℕ) (o : Option ℕ) → Serves (IsDelivered place at o) (does.deliver_by place at o)
 serve-delivered place at None c sound = serve-one SaysNoSuch tt c
 serve-delivered place at (Some k) c sound =
-    serve-both (Tells place (Delivers at)) (λ c. if_so (c.up k) IsNothing (Is (SaysDown k)) c)
+    serve-both (Follows place (Delivers at)) (λ c. if_so (c.up k) IsNothing (Is (SaysDown k)) c)
     (does.tells place (Delivers at)) (λ c. cond (c.up k) [] (SaysDown k ∷ []))
     (serve-tells (Delivers at) tt place)
     (λ d _. serve-if (d.up k) IsNothing (Is (SaysDown k)) d [] (SaysDown k ∷ []) (λ _. serve-nothing d)
@@ -539,7 +539,7 @@ serve-line setup (lines.Write node) c sound =
 serve-line setup (lines.Sync node) c sound =
     serve-up node.0 (IsSync setup node.0) (does.sync setup node.0) (serve-sync setup node.0) c sound
 serve-line setup (lines.Notice node at) c sound =
-    serve-up node.0 (Tells at.0 (Notices node.0)) (does.tells at.0 (Notices node.0))
+    serve-up node.0 (Follows at.0 (Notices node.0)) (does.tells at.0 (Notices node.0))
     (serve-tells (Notices node.0) tt at.0) c sound
 serve-line setup (lines.Tick node at) c sound =
     serve-up node.0 (Is (At at.0 (Ticks node.0))) (does.one (At at.0 (Ticks node.0)))

@@ -15,7 +15,7 @@ use Rattle.qq_cluster_model.specs.ClusterLaws.{is_failure, has_failure, finding,
 use Rattle.qq_cluster_model.specs.Lines.{publish_with, IsRouted, IsSend, WhereUp, nodes_of, receiver_at, IsDelivered, WhereThere, IsDeliver, IsLose, IsCopy, AndPumped, IsLine, IsScript, IsRun}
 use Rattle.qq_cluster_model.specs.Queue.{Event, Submits, TellsEnded, Attaches, Judges, Resends, Downs, Ticks, Delivers, Loses, Copies, Notices, TellsNotTaken, Fetches}
 use Rattle.qq_cluster_model.specs.Taking.{command_for}
-use Rattle.qq_cluster_model.specs.Rules.{Rule, IsNothing, Is, Then, if_so, ForEach, some_queue, waits_written, waits_synced, waits_noticed, IsWritten, IsWrite, MayRoll, IsSynced, IsSync, IsNotice, IsNodeRound, IsEmptied, IsRound, is_idle, Pumps, most_rounds, IsPump, IsPumped, is_ended, IsGiven, IsResend, IsEnd, IsFound, IsRestart, tick_at, IsFirstTick, IsOpening, IsClaimed, not_taken, Times, IsCommanded, IsJudged, IsJudgedWhere, IsNextJudged, IsTold, Tells}
+use Rattle.qq_cluster_model.specs.Rules.{Rule, IsNothing, Is, Then, if_so, ForEach, some_queue, waits_written, waits_synced, waits_noticed, IsWritten, IsWrite, MayRoll, IsSynced, IsSync, IsNotice, IsNodeRound, IsEmptied, IsRound, is_idle, Pumps, most_rounds, IsPump, IsPumped, is_ended, IsGiven, IsResend, IsEnd, IsFound, IsRestart, tick_at, IsFirstTick, IsOpening, IsClaimed, not_taken, Times, IsCommanded, IsJudged, IsJudgedWhere, IsNextJudged, IsTold, Follows}
 
 -- what restarts found and takers answered, with more behind it, is what they found and answered otherwise
 record AreAlike (es fs : List ClusterEvent) (rest more : List (ℕ → ℕ)) (said heard : List Verdict) : Type 0 where
@@ -170,7 +170,7 @@ settles-told place c =
     settles-times (length (c.queue place).untold) (IsNextJudged place)
     (λ d. settles-where place (d.queue place).untold d) c
 
-settles-tells : (place : ℕ) (event : Event) (c : Cluster) → Settles (Tells place event) c
+settles-tells : (place : ℕ) (event : Event) (c : Cluster) → Settles (Follows place event) c
 settles-tells place event c =
     settles-then (Is (At place event)) (IsTold place) c (settles-is (At place event) c)
     (λ d. settles-told place d)
@@ -191,7 +191,7 @@ settles-sync setup k c =
 
 settles-notice : (k place : ℕ) (c : Cluster) → Settles (IsNotice k place) c
 settles-notice k place c =
-    settles-if (c.up k && waits_noticed k (c.queue place)) (Tells place (Notices k)) IsNothing c
+    settles-if (c.up k && waits_noticed k (c.queue place)) (Follows place (Notices k)) IsNothing c
     (settles-tells place (Notices k) c) (settles-nothing c)
 
 settles-node : (setup : Setup) (k : ℕ) (c : Cluster) → Settles (IsNodeRound setup k) c
@@ -203,7 +203,7 @@ settles-node setup k c =
 
 settles-emptied : (place : ℕ) (c : Cluster) → Settles (IsEmptied place) c
 settles-emptied place c =
-    settles-times (length (c.queue place).group.bag) (Tells place (Delivers 0)) (settles-tells place (Delivers 0)) c
+    settles-times (length (c.queue place).group.bag) (Follows place (Delivers 0)) (settles-tells place (Delivers 0)) c
 
 settles-round : (setup : Setup) (c : Cluster) → Settles (IsRound setup) c
 settles-round setup c =
@@ -236,12 +236,12 @@ settles-routed session body (place ∷ places) c =
 settles-resend : (setup : Setup) (session : ℕ) (c : Cluster) → Settles (IsResend setup session) c
 settles-resend setup session c =
     let sends : Rule = ForEach setup.places (λ place. Is (At place (Resends session))) in
-    let asks : Rule = ForEach setup.places (λ place. Tells place (Fetches session)) in
+    let asks : Rule = ForEach setup.places (λ place. Follows place (Fetches session)) in
     settles-if (some_queue setup (is_ended session) c) (Is SaysEnded) (Then sends asks) c (settles-is SaysEnded c)
     (settles-then sends asks c
     (settles-each setup.places (λ place. Is (At place (Resends session)))
     (λ place d. settles-is (At place (Resends session)) d) c)
-    (λ d. settles-each setup.places (λ place. Tells place (Fetches session))
+    (λ d. settles-each setup.places (λ place. Follows place (Fetches session))
     (λ place e. settles-tells place (Fetches session) e) d))
 
 settles-end : (setup : Setup) (session : ℕ) (c : Cluster) → Settles (IsEnd setup session) c
@@ -275,7 +275,7 @@ settles-restart setup k c =
 settles-delivered : (place at : ℕ) (o : Option ℕ) (c : Cluster) → Settles (IsDelivered place at o) c
 settles-delivered place at None c = settles-is SaysNoSuch c
 settles-delivered place at (Some k) c =
-    settles-then (Tells place (Delivers at)) (λ d. if_so (d.up k) IsNothing (Is (SaysDown k)) d) c
+    settles-then (Follows place (Delivers at)) (λ d. if_so (d.up k) IsNothing (Is (SaysDown k)) d) c
     (settles-tells place (Delivers at) c)
     (λ d. settles-if (d.up k) IsNothing (Is (SaysDown k)) d (settles-nothing d) (settles-is (SaysDown k) d))
 
@@ -320,7 +320,7 @@ settles-line setup (lines.Write node) c =
     settles-up node.0 (IsWrite setup node.0) c (settles-write setup node.0 c)
 settles-line setup (lines.Sync node) c = settles-up node.0 (IsSync setup node.0) c (settles-sync setup node.0 c)
 settles-line setup (lines.Notice node at) c =
-    settles-up node.0 (Tells at.0 (Notices node.0)) c (settles-tells at.0 (Notices node.0) c)
+    settles-up node.0 (Follows at.0 (Notices node.0)) c (settles-tells at.0 (Notices node.0) c)
 settles-line setup (lines.Tick node at) c =
     settles-up node.0 (Is (At at.0 (Ticks node.0))) c (settles-is (At at.0 (Ticks node.0)) c)
 settles-line setup (lines.Deliver at message) c = settles-deliver at.0 message c

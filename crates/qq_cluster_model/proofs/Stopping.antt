@@ -5,7 +5,7 @@ use Rattle.qq_cluster_model.specs.Cluster.{Setup, Cluster, ClusterEvent, At, Say
 use Rattle.qq_cluster_model.specs.ClusterLaws.{GivesNoCommand, MakesNoRound, SayTheyAreDown, TellsWhatIsNotTaken}
 use Rattle.qq_cluster_model.specs.Lines.{IsLine, WhereUp}
 use Rattle.qq_cluster_model.specs.Queue.{Notices, Resends, TellsEnded, Ticks, Fetches}
-use Rattle.qq_cluster_model.specs.Rules.{Rule, ForEach, Is, IsNothing, IsRound, IsSync, IsWrite, Pumps, Tells, Then, if_so, is_ended, is_idle, most_rounds, some_queue, IsClaimed, not_taken}
+use Rattle.qq_cluster_model.specs.Rules.{Rule, ForEach, Is, IsNothing, IsRound, IsSync, IsWrite, Pumps, Follows, Then, if_so, is_ended, is_idle, most_rounds, some_queue, IsClaimed, not_taken}
 
 -- the first of two rules where a test is true, the second where it is false
 pub first-is : (b : Bool) (First Second : Rule) (c : Cluster) (events : List ClusterEvent) → b ≡ true
@@ -41,7 +41,7 @@ unfolding IsLine
 say-down setup node c = record {
   write = λ down events allowed. says node.0 (IsWrite setup node.0) c events down allowed;
   sync = λ down events allowed. says node.0 (IsSync setup node.0) c events down allowed;
-  notice = λ queue down events allowed. says node.0 (Tells queue.0 (Notices node.0)) c events down allowed;
+  notice = λ queue down events allowed. says node.0 (Follows queue.0 (Notices node.0)) c events down allowed;
   tick = λ queue down events allowed. says node.0 (Is (At queue.0 (Ticks node.0))) c events down allowed;
 }
 
@@ -53,7 +53,7 @@ gives-none setup session c = record {
   resend = λ events ended allowed.
       first-is (some_queue setup (is_ended session) c) (Is SaysEnded)
       (Then (ForEach setup.places (λ place. Is (At place (Resends session))))
-      (ForEach setup.places (λ place. Tells place (Fetches session)))) c events ended allowed;
+      (ForEach setup.places (λ place. Follows place (Fetches session)))) c events ended allowed;
 }
 
 pub tells-not_taken : (session : ℕ) (c : Cluster) → TellsWhatIsNotTaken session c

@@ -18,7 +18,7 @@ use Rattle.qq_taker.specs.declared.seats.Leaving.{Leaving}
 use Rattle.qq_taker.specs.declared.seats.Seat.{Seat}
 use Rattle.qq_cluster_model.specs.Cluster.{Cluster, ClusterEvent, At, cluster_after, cluster_happens, part_of, parts_of}
 use Rattle.qq_cluster_model.specs.Queue.{Queue, Event, Attaches, Delivers, Judges, TellsEnded, after, begin, handed_out, happens, rows_told, seats_after, told, untold_after}
-use Rattle.qq_cluster_model.specs.Rules.{Is, IsClaimed, IsCommanded, IsEmptied, IsGiven, IsJudgedWhere, IsNextJudged, IsNothing, IsTold, Rule, Tells, Times, if_so, is_ended, not_taken}
+use Rattle.qq_cluster_model.specs.Rules.{Is, IsClaimed, IsCommanded, IsEmptied, IsGiven, IsJudgedWhere, IsNextJudged, IsNothing, IsTold, Rule, Follows, Times, if_so, is_ended, not_taken}
 use Rattle.qq_cluster_model.specs.Serving.{tell, tells, keep_next, times}
 use Rattle.qq_cluster_model.specs.Taking.{answers, delivered, dropped_by, leaving_at, seated, seated_by, told_of, told_then, unjudged, waiting_of, waiting_then}
 
@@ -162,7 +162,7 @@ told-nothing place c events none is =
 
 -- an event after which none waits is all there is
 pub tells-only : (place : ℕ) (event : Event) (c : Cluster) (events : List ClusterEvent)
-    → (happens (c.queue place) event).untold ≡ [] → Tells place event c events → events ≡ At place event ∷ []
+    → (happens (c.queue place) event).untold ≡ [] → Follows place event c events → events ≡ At place event ∷ []
 tells-only place event c events none is =
     let first : is.early ≡ At place event ∷ [] = is.first in
     let late : is.late ≡ [] =
@@ -172,13 +172,13 @@ tells-only place event c events none is =
     is.is ∙ ap (λ (es : List ClusterEvent). is.early ++ es) late ∙ append-nil is.early ∙ first
 
 pub tells-one : (place : ℕ) (event : Event) (c : Cluster) (events : List ClusterEvent) → GivesNone event
-    → IsTakerless (c.queue place) → Tells place event c events → events ≡ At place event ∷ []
+    → IsTakerless (c.queue place) → Follows place event c events → events ≡ At place event ∷ []
 tells-one place event c events none t is =
     tells-only place event c events (takerless-event (c.queue place) event none t).untold is
 
 -- and so often
 pub tells-each : (place n : ℕ) (event : Event) (c : Cluster) (events : List ClusterEvent) → GivesNone event
-    → IsTakerless (c.queue place) → Times n (Tells place event) c events → events ≡ replicate n (At place event)
+    → IsTakerless (c.queue place) → Times n (Follows place event) c events → events ≡ replicate n (At place event)
 tells-each place zero event c events none t is = is
 tells-each place (suc n) event c events none t is =
     let first : is.early ≡ At place event ∷ [] = tells-one place event c is.early none t is.first in
@@ -259,7 +259,7 @@ at-times place (suc n) Each each c events is =
     (AllByRecursion-append (IsAt place) is.early is.late (each c is.early is.first)
     (at-times place n Each each (cluster_after c is.early) is.late is.second))
 
-pub tells-at : (place : ℕ) (event : Event) → GivesNone event → AllowsAt place (Tells place event)
+pub tells-at : (place : ℕ) (event : Event) → GivesNone event → AllowsAt place (Follows place event)
 tells-at place event none c events is =
     let d : Cluster = cluster_after c is.early in
     subst (AreAt place) (sym is.is)
@@ -269,7 +269,7 @@ tells-at place event none c events is =
 
 pub emptied-at : (place : ℕ) → AllowsAt place (IsEmptied place)
 emptied-at place c events is =
-    at-times place (length (c.queue place).group.bag) (Tells place (Delivers 0)) (tells-at place (Delivers 0) tt) c events
+    at-times place (length (c.queue place).group.bag) (Follows place (Delivers 0)) (tells-at place (Delivers 0) tt) c events
     is
 
 -- no other queue sees them, and each node stays as it is

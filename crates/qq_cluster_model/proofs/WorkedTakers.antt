@@ -25,7 +25,7 @@ use Rattle.qq_cluster_model.specs.Cluster.{At, Cluster, ClusterEvent, NodeSyncs,
 use Rattle.qq_cluster_model.specs.Example.{at_the_taker, opened, output, publish_a, round_of_one, settled_at_once, setup_of, with_a_taker}
 use Rattle.qq_cluster_model.specs.Lines.{IsLine, IsRun, IsScript}
 use Rattle.qq_cluster_model.specs.Queue.{Attaches, Delivers, Judges, Notices, Submits}
-use Rattle.qq_cluster_model.specs.Rules.{Is, IsNothing, IsPump, IsPumped, IsRound, IsSynced, IsTold, IsWritten, MayRoll, Pumps, Rule, Tells, Then, Times, if_so, is_idle, most_rounds, some_queue, waits_noticed, waits_synced, waits_written}
+use Rattle.qq_cluster_model.specs.Rules.{Is, IsNothing, IsPump, IsPumped, IsRound, IsSynced, IsTold, IsWritten, MayRoll, Pumps, Rule, Follows, Then, Times, if_so, is_idle, most_rounds, some_queue, waits_noticed, waits_synced, waits_written}
 use Rattle.qq_cluster_model.specs.Serving.{line}
 use Rattle.qq_cluster_model.proofs.Serving.{opening-served}
 
@@ -88,7 +88,7 @@ round-is c told r = record {
           early = At 1 (Notices 1) ∷ told;
           late = [];
           is = sym (append-nil (At 1 (Notices 1) ∷ told));
-          first = so-true (c.up 1 && waits_noticed 1 (synced.queue 1)) (Tells 1 (Notices 1)) IsNothing synced
+          first = so-true (c.up 1 && waits_noticed 1 (synced.queue 1)) (Follows 1 (Notices 1)) IsNothing synced
               (At 1 (Notices 1) ∷ told) (and_from (c.up 1) (waits_noticed 1 (synced.queue 1)) r.up r.notices)
               (record { early = At 1 (Notices 1) ∷ []; late = told; is = refl; first = refl; second = r.tells });
           second = refl;
@@ -101,7 +101,7 @@ round-is c told r = record {
     early = [];
     late = [];
     is = refl;
-    first = subst (λ (n : ℕ). Times n (Tells 1 (Delivers 0)) (cluster_after c (round_of_one ++ told)) []) (sym r.bag)
+    first = subst (λ (n : ℕ). Times n (Follows 1 (Delivers 0)) (cluster_after c (round_of_one ++ told)) []) (sym r.bag)
         refl;
     second = refl;
   };

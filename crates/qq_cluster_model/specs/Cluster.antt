@@ -1,14 +1,17 @@
 -- A cluster: several nodes, each with one log for all its queues, and several queues, each of which is replicated over
 -- some of the nodes.
-use Rattle.std.specs.Prelude.{ℕ, List, [], ◌∷◌, ◌++◌, Bool, true, false, Option, filter, map, nat_eq, if◌then◌else◌}
+use Rattle.std.specs.Prelude.{ℕ, List, [], ◌∷◌, ◌++◌, Bool, true, false, filter, length, map, nat_eq, if◌then◌else◌}
 use Rattle.std.specs.List.{flat_map}
+use Rattle.std.specs.Option.{option_map}
 use Rattle.qq_base.specs.Fronts.{put}
 use Rattle.qq_base.specs.declared.ids.NodeId.{NodeId}
 use Rattle.qq_disk.specs.declared.image.Image.{Image}
 use Rattle.qq_entry.specs.declared.queue.QueueArgs.{QueueArgs}
 use Rattle.qq_raft_model.specs.Group.{Group, has_node}
 use Rattle.qq_raft_model.specs.State.{Server}
-use Rattle.qq_session.specs.declared.shown.Shown.{Shown}
+use Rattle.qq_raft_msg.specs.declared.state.MemberState.{MemberState}
+use Rattle.qq_cluster_model.specs.declared.printed.Printed.{Printed}
+use Rattle.qq_cluster_model.specs.declared.printed.Printed.TheVariants.{Of, Stopped, IsDown, NoSuch, Unroutable, Busy, Ended, State}
 use Rattle.qq_cluster_model.specs.Queue.{Queue, Event, Mutes, Ends, Writes, Syncs, Stops, Finds, begin, after, said}
 
 -- what a cluster is started with
@@ -118,27 +121,22 @@ cluster_after c (event ∷ events) = cluster_after (cluster_happens c event) eve
 
 -- ---- what is printed
 
-pub data Printed : Type 0 where
-  -- what a queue shows
-  Of : (place : ℕ) (shown : Shown) → Printed
-  -- a node has stopped
-  Stopped : (node : ℕ) → Printed
-  -- it is down
-  IsDown : (node : ℕ) → Printed
-  NoSuch : Printed
-  Unroutable : Printed
-  Busy : Printed
-  -- a session has ended
-  Ended : Printed
-  -- the state of a queue's server on a node, None where that is down
-  State : (place node : ℕ) (server : Option Server) → Printed
+-- what a server tells of itself: its role and term, its last entry, and the last one that it knows to be committed
+abbrev pub member_state : Server → MemberState
+member_state s =
+    record {
+      role = s.role;
+      term = s.term;
+      last = record { 0 = length s.log };
+      commit = record { 0 = s.commit };
+    }
 
 -- the members of a queue's group, in order of their nodes
 abbrev pub members_in_order : Setup → ℕ → List ℕ
 members_in_order setup place = filter (λ k. has_node k (members setup place)) setup.nodes
 
 abbrev pub state_at : Cluster → ℕ → ℕ → Printed
-state_at c place k = State place k ((c.queue place).group.seat k).server
+state_at c place k = State place k (option_map member_state ((c.queue place).group.seat k).server)
 
 abbrev pub prints : Setup → Cluster → ClusterEvent → List Printed
 prints setup c (At place event) = map (Of place) (said (c.queue place) event)

@@ -14,7 +14,9 @@ use Rattle.qq_session.specs.Printed.{IsAudited, IsConfirmedOnce}
 use Rattle.qq_session.specs.declared.shown.Shown.{Shown}
 use Rattle.qq_taker.specs.declared.taker.Verdict.{Verdict}
 use Rattle.qq_cluster_model.specs.Queue.{Queue, Event, Judges, TellsEnded, TellsNotTaken, all_said, audit_rows, begin}
-use Rattle.qq_cluster_model.specs.Cluster.{Setup, Cluster, ClusterEvent, At, Fails, FindsEach, SaysDown, SaysEnded, Printed, Of, new_cluster, cluster_after, parts_of, all_prints}
+use Rattle.qq_cluster_model.specs.Cluster.{Setup, Cluster, ClusterEvent, At, Fails, FindsEach, SaysDown, SaysEnded, new_cluster, cluster_after, parts_of, all_prints}
+use Rattle.qq_cluster_model.specs.declared.printed.Printed.{Printed}
+use Rattle.qq_cluster_model.specs.declared.printed.Printed.TheVariants.{Of}
 use Rattle.qq_cluster_model.specs.Rules.{Rule, some_queue, is_idle, is_ended, not_taken, IsPump, IsGiven, IsResend}
 use Rattle.qq_cluster_model.specs.Lines.{IsLine, IsRun}
 use Rattle.qq_cluster_model.specs.Laws.{IsBegun, IsMade, deliveries_shown, queue_after}

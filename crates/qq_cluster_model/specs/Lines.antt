@@ -9,7 +9,7 @@ use Rattle.qq_script_lines.specs.declared.line.ScriptLine.{ScriptLine}
 use Rattle.qq_script_lines.specs.declared.line.ScriptLine.TheVariants as lines
 use Rattle.qq_cluster_model.specs.Queue.{Event, Attaches, Ticks, Delivers, Loses, Copies, Notices, receiver_by}
 use Rattle.qq_cluster_model.specs.Cluster.{Setup, Cluster, MutesEach, Sets, Alike, At, Crashes, Shows, SaysDown, SaysNoSuch, SaysUnroutable}
-use Rattle.qq_cluster_model.specs.Rules.{Rule, IsNothing, Is, Then, if_so, ForEach, IsWrite, IsSync, IsPump, IsPumped, IsGiven, IsResend, IsEnd, IsRestart, IsOpening, Tells}
+use Rattle.qq_cluster_model.specs.Rules.{Rule, IsNothing, Is, Then, if_so, ForEach, IsWrite, IsSync, IsPump, IsPumped, IsGiven, IsResend, IsEnd, IsRestart, IsOpening, Follows}
 
 -- ---- messages to exchanges
 
@@ -43,7 +43,7 @@ receiver_at c place at = receiver_by (drop at (c.queue place).group.bag)
 abbrev pub IsDelivered : ℕ → ℕ → Option ℕ → Rule
 IsDelivered place at None = Is SaysNoSuch
 IsDelivered place at (Some k) =
-    Then (Tells place (Delivers at)) (λ c. if_so (c.up k) IsNothing (Is (SaysDown k)) c)
+    Then (Follows place (Delivers at)) (λ c. if_so (c.up k) IsNothing (Is (SaysDown k)) c)
 
 abbrev pub WhereThere : Option ℕ → Event → ℕ → Rule
 WhereThere None event place = Is SaysNoSuch
@@ -81,7 +81,7 @@ IsLine setup (lines.Pace auto) = Is (Sets auto)
 IsLine setup lines.Pump = IsPump setup
 IsLine setup (lines.Write node) = WhereUp node.0 (IsWrite setup node.0)
 IsLine setup (lines.Sync node) = WhereUp node.0 (IsSync setup node.0)
-IsLine setup (lines.Notice node at) = WhereUp node.0 (Tells at.0 (Notices node.0))
+IsLine setup (lines.Notice node at) = WhereUp node.0 (Follows at.0 (Notices node.0))
 IsLine setup (lines.Tick node at) = WhereUp node.0 (Is (At at.0 (Ticks node.0)))
 IsLine setup (lines.Deliver at message) = IsDeliver at.0 message
 IsLine setup (lines.Lose at message) = IsLose at.0 message

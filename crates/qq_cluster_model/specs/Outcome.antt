@@ -1,83 +1,47 @@
--- What comes of events outside of a cluster: the text that they print, what takers see, and what who listens hears.
-use Rattle.std.specs.Prelude.{ℕ, List, [], ◌∷◌, Option, Some, None, filter_map}
+-- What comes of events outside of a cluster: what they print, and what takers see.
+use Rattle.std.specs.Prelude.{List, [], ◌∷◌, Option, Some, None, filter_map}
 use Rattle.qq_session.specs.declared.shown.Shown.{Shown}
-use Rattle.qq_session.specs.declared.shown.Shown.TheVariants.{Answered, Attached, Delivered, Dropped, HasEnded, NoLeader, NotTaken, Taken, WindowFull}
-use Rattle.qq_taker.specs.Takers.{Takers, drop_at, give, hear, judge}
+use Rattle.qq_session.specs.declared.shown.Shown.TheVariants.{Attached, Delivered, Dropped, Taken}
+use Rattle.qq_taker.specs.Takers.{Takers, drop_at, give, judge}
 use Rattle.qq_taker.specs.declared.handed.Handed.{Handed}
-use Rattle.qq_taker.specs.declared.heard.Heard.{Heard}
-use Rattle.qq_taker.specs.declared.heard.Refusal.{Refusal}
-use Rattle.qq_taker.specs.declared.heard.Refusal.TheVariants as refusals
-use Rattle.qq_taker.specs.declared.heard.What.{What}
-use Rattle.qq_taker.specs.declared.heard.What.TheVariants.{Answer, Delivery, Refused}
-use Rattle.qq_cluster_model.specs.Cluster.{Cluster, ClusterEvent, Printed, Of, Setup, all_prints}
+use Rattle.qq_cluster_model.specs.Cluster.{Cluster, ClusterEvent, Setup, all_prints}
+use Rattle.qq_cluster_model.specs.declared.printed.Printed.{Printed}
+use Rattle.qq_cluster_model.specs.declared.printed.Printed.TheVariants.{Of}
 
--- a text so far, and the takers of a run
+-- what was printed so far, and the takers of a run
 pub record Outcome : Type 0 where
-  pub text : List ℕ
+  pub printed : List Printed
   pub takers : Takers
 
--- ---- what is heard
+-- ---- deliveries
 
--- a session's command wasn't given to a leader
-abbrev pub refused_at : (place session : ℕ) → Refusal → Heard
-refused_at place session why = record { queue = record { 0 = place }; what = Refused session why }
+abbrev pub delivery_shown : Shown → Option Handed
+delivery_shown (Delivered consumer delivery) = Some (record { consumer = consumer; delivery = delivery })
+delivery_shown _ = None
 
--- who listens hears answers, deliveries to consumers without a taker, and that commands weren't given
-abbrev pub heard_by : (place : ℕ) → Shown → Option Heard
-heard_by place (Answered row) = Some (record { queue = record { 0 = place }; what = Answer row })
-heard_by place (Delivered consumer delivery) =
-    Some (record {
-      queue = record { 0 = place };
-      what = Delivery (record { consumer = consumer; delivery = delivery });
-    })
-heard_by place (NoLeader session) = Some (refused_at place session refusals.NoLeader)
-heard_by place (WindowFull session) = Some (refused_at place session refusals.WindowFull)
-heard_by place (HasEnded session) = Some (refused_at place session refusals.Ended)
-heard_by place (NotTaken session id) = Some (refused_at place session (refusals.NotTaken id))
-heard_by place _ = None
+abbrev pub delivery_in : Printed → Option Handed
+delivery_in (Of place shown) = delivery_shown shown
+delivery_in _ = None
 
-abbrev pub heard_in : Printed → Option Heard
-heard_in (Of place shown) = heard_by place shown
-heard_in _ = None
-
--- of all that is printed
-abbrev pub all_heard : List Printed → List Heard
-all_heard printed = filter_map heard_in printed
-
-abbrev pub delivery_told : What → Option Handed
-delivery_told (Delivery handed) = Some handed
-delivery_told _ = None
-
-abbrev pub delivery_in : Heard → Option Handed
-delivery_in h = delivery_told h.what
-
--- the deliveries among it
-abbrev pub deliveries_among : List Heard → List Handed
-deliveries_among list = filter_map delivery_in list
+-- the deliveries among what is printed: those to consumers without a taker, or that their taker left with them
+abbrev pub deliveries_among : List Printed → List Handed
+deliveries_among printed = filter_map delivery_in printed
 
 -- ---- what takers see
 
 -- a taker is given to a consumer, sees a delivery, and is dropped
-abbrev pub turns : Shown → Takers → Takers
-turns (Attached session number) all = give number all
-turns (Taken number consumer delivery verdict) all = judge number delivery verdict all
-turns (Dropped session number) all = drop_at number all
-turns _ all = all
+abbrev pub sees : Shown → Takers → Takers
+sees (Attached session number) all = give number all
+sees (Taken number consumer delivery verdict) all = judge number delivery verdict all
+sees (Dropped session number) all = drop_at number all
+sees _ all = all
 
-abbrev pub hear_some : Option Heard → Takers → Takers
-hear_some None all = all
-hear_some (Some h) all = hear h all
-
--- takers see what is for them, and who listens hears the rest
-abbrev pub sees : (place : ℕ) → Shown → Takers → Takers
-sees place shown all = hear_some (heard_by place shown) (turns shown all)
-
-abbrev pub sees_all : (place : ℕ) → List Shown → Takers → Takers
-sees_all place [] all = all
-sees_all place (shown ∷ more) all = sees_all place more (sees place shown all)
+abbrev pub sees_all : List Shown → Takers → Takers
+sees_all [] all = all
+sees_all (shown ∷ more) all = sees_all more (sees shown all)
 
 abbrev pub sees_printed : Printed → Takers → Takers
-sees_printed (Of place shown) all = sees place shown all
+sees_printed (Of place shown) all = sees shown all
 sees_printed _ all = all
 
 abbrev pub sees_prints : List Printed → Takers → Takers

@@ -93,9 +93,9 @@ IsNextJudged place c events = IsJudgedWhere place (c.queue place).untold c event
 abbrev pub IsTold : ℕ → Rule
 IsTold place c events = Times (length (c.queue place).untold) (IsNextJudged place) c events
 
--- something happens to a queue, and takers are asked about what was handed out then
-abbrev pub Tells : ℕ → Event → Rule
-Tells place event = Then (Is (At place event)) (IsTold place)
+-- something happens to a queue, and then what follows of it: takers are asked about what was handed out
+abbrev pub Follows : ℕ → Event → Rule
+Follows place event = Then (Is (At place event)) (IsTold place)
 
 -- ---- a node's log
 
@@ -135,7 +135,7 @@ IsSync setup k c events =
 -- a queue's member notices what is synced of it
 abbrev pub IsNotice : ℕ → ℕ → Rule
 IsNotice k place c events =
-    if_so (c.up k && waits_noticed k (c.queue place)) (Tells place (Notices k)) IsNothing c events
+    if_so (c.up k && waits_noticed k (c.queue place)) (Follows place (Notices k)) IsNothing c events
 
 -- ---- pumps
 
@@ -144,7 +144,7 @@ IsNodeRound setup k = Then (IsWrite setup k) (Then (IsSync setup k) (ForEach set
 
 -- the messages that are in a queue's bag are delivered from the front
 abbrev pub IsEmptied : ℕ → Rule
-IsEmptied place c events = Times (length (c.queue place).group.bag) (Tells place (Delivers 0)) c events
+IsEmptied place c events = Times (length (c.queue place).group.bag) (Follows place (Delivers 0)) c events
 
 -- the nodes in order, and then the queues in order
 abbrev pub IsRound : Setup → Rule
@@ -187,7 +187,7 @@ abbrev pub IsResend : Setup → ℕ → Rule
 IsResend setup session c events =
     if_so (some_queue setup (is_ended session) c) (Is SaysEnded)
     (Then (ForEach setup.places (λ place. Is (At place (Resends session))))
-    (ForEach setup.places (λ place. Tells place (Fetches session)))) c events
+    (ForEach setup.places (λ place. Follows place (Fetches session)))) c events
 
 -- a session ends at every queue, and each that had a command of it is told so
 abbrev pub IsEnd : Setup → ℕ → Rule

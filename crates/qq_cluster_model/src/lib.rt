@@ -1,12 +1,13 @@
 //! A cluster: nodes whose disks fail and that are crashed, messages between them that are lost, come again and overtake
-//! one another, and the queues that are replicated over them. What may happen, and what holds whatever happens. It has
-//! no code.
+//! one another, and the queues that are replicated over them. What may happen, what holds whatever happens, and what is
+//! printed. It has no function of the code.
 #![tactic(auto)]
 
 mod clusters;
 mod consumers;
 mod ended;
 mod examples;
+mod printed;
 mod queues;
 mod sessions;
 mod takers;
@@ -21,6 +22,7 @@ pub use consumers::{
 };
 pub use ended::{an_ended_session_gives_no_commands, ends_go_to_the_leader};
 pub use examples::{worked_consumers_print, worked_scripts_print, worked_takers_print};
+pub use printed::Printed;
 pub use queues::{
     a_leader_answers_its_own_term, a_leader_counts_by_the_audit, a_queue_is_its_group,
     a_queue_may_begin_with_new_logs, an_audit_is_serial, commands_go_to_the_leader,
@@ -32,6 +34,5 @@ pub use sessions::{
 };
 pub use takers::{
     a_consumer_has_one_taker, nothing_waits_between_lines, takers_see_runs_of_deliveries,
-    who_listens_hears_what_is_told,
 };
 pub use texts::{a_cluster_tells_its_state, a_lost_command_is_told};

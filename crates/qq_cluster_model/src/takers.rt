@@ -1,5 +1,5 @@
 //! The laws of takers, whatever happens to a queue of a cluster.
-ghost use Rattle.std.specs.Prelude.{◌≡◌, ◌++◌, ◌∷◌, [], List, None, Option, Some, codes, filter_map, length, ℕ};
+ghost use Rattle.std.specs.Prelude.{◌≡◌, ◌++◌, ◌∷◌, [], List, Some, codes, filter_map, length, ℕ};
 ghost use Rattle.std.specs.Fmt.{decimal};
 ghost use Rattle.qq_entry.specs.declared.queue.QueueArgs.{QueueArgs};
 ghost use Rattle.qq_model.specs.Audit.{deliveries};
@@ -8,13 +8,10 @@ ghost use Rattle.qq_raft_model.specs.Group.{Group};
 ghost use Rattle.qq_script_lines.specs.declared.line.ScriptLine.{ScriptLine};
 ghost use Rattle.qq_session.specs.declared.shown.Shown.TheVariants.{Dropped, IsBusy};
 ghost use Rattle.qq_taker.specs.Seats.{taker_of};
-ghost use Rattle.qq_taker.specs.Takers.{Takers, hear_on};
-ghost use Rattle.qq_taker.specs.declared.heard.Heard.{Heard};
-ghost use Rattle.qq_cluster_model.specs.Cluster.{Cluster, ClusterEvent, Setup, all_prints, cluster_after, new_cluster};
+ghost use Rattle.qq_cluster_model.specs.Cluster.{ClusterEvent, Setup, cluster_after, new_cluster};
 ghost use Rattle.qq_cluster_model.specs.ClusterLaws.{LeavesNothingWaiting, NothingWaits};
 ghost use Rattle.qq_cluster_model.specs.Laws.{IsBegun, IsNewTaker, IsRun, deliveries_shown, queue_after, seen_by};
 ghost use Rattle.qq_cluster_model.specs.Lines.{IsLine, IsRun as IsRunOf};
-ghost use Rattle.qq_cluster_model.specs.Outcome.{all_heard, takers_after};
 ghost use Rattle.qq_cluster_model.specs.Queue.{Attaches, Event, Queue, all_said, audit_rows, begin, consumer_of, happens, said};
 ghost use Rattle.qq_cluster_model.specs.Texts.{shown_text_at};
 
@@ -49,21 +46,6 @@ pub fn takers_see_runs_of_deliveries()
     consumers_are_handed_their_deliveries();
     what_is_out_was_delivered_as_it_is();
 }
-
-/// A law: who listens hears, of all queues and in the order in which it is printed, each answer, each delivery to a
-/// consumer without a taker, and each command that wasn't given to a leader. Where nobody listens nothing is kept.
-pub fn who_listens_hears_what_is_told()
-    ensures heard { (setup : Setup) (c : Cluster) (events : List ClusterEvent) (all : Takers)
-        (before : List Heard) → all.heard ≡ Some before →
-        (takers_after setup c events all).heard
-        ≡ Some (before ++ all_heard (all_prints setup c events)) }
-    ensures nobody { (setup : Setup) (c : Cluster) (events : List ClusterEvent) (all : Takers) →
-        all.heard ≡ None → (takers_after setup c events all).heard ≡ None }
-    ensures held { (setup : Setup) (c : Cluster) (events : List ClusterEvent)
-        (all : Takers) (before : Option (List Heard)) →
-        (takers_after setup c events (hear_on before all)).held
-        ≡ (takers_after setup c events all).held }
-{}
 
 /// A law: a consumer that has a taker gets no second one, and is told whose number it has.
 pub fn a_consumer_has_one_taker()

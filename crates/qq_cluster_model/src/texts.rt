@@ -2,7 +2,8 @@
 ghost use Rattle.std.specs.Prelude.{◌≡◌, ◌≢◌, ◌++◌, ℕ, None, codes};
 ghost use Rattle.std.specs.Fmt.{decimal};
 ghost use Rattle.qq_session.specs.declared.shown.Shown.TheVariants.{NoLeader, WindowFull};
-ghost use Rattle.qq_cluster_model.specs.Cluster.{Busy, IsDown, NoSuch, Setup, State, Stopped, Unroutable};
+ghost use Rattle.qq_cluster_model.specs.Cluster.{Setup};
+ghost use Rattle.qq_cluster_model.specs.declared.printed.Printed.TheVariants.{Busy, IsDown, NoSuch, State, Stopped, Unroutable};
 ghost use Rattle.qq_cluster_model.specs.Texts.{printed_text, shown_text_at};
 
 /// A law: what is printed of a node that stops, of a line for one that is down, of a message that

@@ -24,7 +24,7 @@ use Rattle.qq_taker.specs.declared.taker.Verdict.{Verdict}
 use Rattle.qq_taker.specs.declared.taker.Verdict.TheVariants.{Keep}
 use Rattle.qq_cluster_model.specs.Cluster.{At, Cluster, ClusterEvent, cluster_after, cluster_happens}
 use Rattle.qq_cluster_model.specs.Queue.{Attaches, Event, Judges, Queue, attach, attached, happens, said}
-use Rattle.qq_cluster_model.specs.Rules.{IsCommanded, IsGiven, IsJudgedWhere, IsNextJudged, IsTold, Tells, Then, Times}
+use Rattle.qq_cluster_model.specs.Rules.{IsCommanded, IsGiven, IsJudgedWhere, IsNextJudged, IsTold, Follows, Then, Times}
 use Rattle.qq_cluster_model.specs.Taking.{answers, command_for, delivered, dropped_by, has_taker, judged, judged_by, leaving_at, leaving_by, seated, seated_by, told_of, unjudged, waiting_of}
 
 -- ---- what waits
@@ -81,7 +81,7 @@ waits-some seats (g ∷ new) more h is =
 
 -- ---- how takers are asked
 
-pub event-first : (place : ℕ) (event : Event) (c : Cluster) (events : List ClusterEvent) → Tells place event c events
+pub event-first : (place : ℕ) (event : Event) (c : Cluster) (events : List ClusterEvent) → Follows place event c events
     → (asked : List ClusterEvent) × (events ≡ At place event ∷ asked)
     × IsTold place (cluster_happens c (At place event)) asked
 event-first place event c events is = (

@@ -10,7 +10,7 @@ use Rattle.qq_raft_model.specs.State.{Server}
 use Rattle.qq_cluster_model.proofs.Takerless.{AreAt, IsAt, queue-at, tells-at, told-nothing}
 use Rattle.qq_cluster_model.specs.Cluster.{At, Cluster, ClusterEvent, Fails, FindsEach, NodeSyncs, NodeWrites, Setup, cluster_after}
 use Rattle.qq_cluster_model.specs.Queue.{Notices, Queue, happens, waiting, waiting_by}
-use Rattle.qq_cluster_model.specs.Rules.{IsFound, IsNothing, IsNotice, IsRestart, IsSync, IsSynced, IsWrite, IsWritten, MayRoll, Tells, if_so, may_find, some_queue, waits_noticed, waits_synced, waits_written}
+use Rattle.qq_cluster_model.specs.Rules.{IsFound, IsNothing, IsNotice, IsRestart, IsSync, IsSynced, IsWrite, IsWritten, MayRoll, Follows, if_so, may_find, some_queue, waits_noticed, waits_synced, waits_written}
 
 -- ---- tests over queues
 
@@ -177,9 +177,9 @@ notice-is k place c events up some is = (
   λ j there. AllByRecursion-in (IsAt place) (Fails j) tells.late at.1 (in_contains tells.late (Fails j) there),
 )
   where
-    tells : Tells place (Notices k) c events
+    tells : Follows place (Notices k) c events
     tells =
-        subst (λ (b : Bool). if_so b (Tells place (Notices k)) IsNothing c events)
+        subst (λ (b : Bool). if_so b (Follows place (Notices k)) IsNothing c events)
         (and_from (c.up k) (waits_noticed k (c.queue place)) up
         (lt-ltb ((c.queue place).group.seat k).noticed ((c.queue place).synced k) some)) is
 
@@ -192,11 +192,11 @@ notice-is k place c events up some is = (
 pub notice-none : (k place : ℕ) (c : Cluster) (events : List ClusterEvent)
     → (c.queue place).synced k ≤ ((c.queue place).group.seat k).noticed → IsNotice k place c events → events ≡ []
 notice-none k place c events all is =
-    subst (λ (b : Bool). if_so b (Tells place (Notices k)) IsNothing c events)
+    subst (λ (b : Bool). if_so b (Follows place (Notices k)) IsNothing c events)
     (both-no (c.up k) (le-ltb ((c.queue place).group.seat k).noticed ((c.queue place).synced k) all)) is
 
 pub notice-down : (k place : ℕ) (c : Cluster) (events : List ClusterEvent) → c.up k ≡ false
     → IsNotice k place c events → events ≡ []
 notice-down k place c events down is =
-    subst (λ (b : Bool). if_so (b && waits_noticed k (c.queue place)) (Tells place (Notices k)) IsNothing c events)
+    subst (λ (b : Bool). if_so (b && waits_noticed k (c.queue place)) (Follows place (Notices k)) IsNothing c events)
     down is

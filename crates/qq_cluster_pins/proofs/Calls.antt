@@ -3,9 +3,8 @@ use Rattle.std.proofs.Common.{◌≡◌, ℕ, ◌≤◌, ◌<◌, List, ◌++◌
 use Rattle.std.specs.Prelude.{◌⊎◌, ◌-◌, ◌^◌, Contains, IsTrue, true}
 use Rattle.qq_disk.specs.declared.image.Image.{Image}
 use Rattle.qq_disk.specs.Disk.{now}
-use Rattle.qq_cluster_model.specs.Cluster.{Cluster, ClusterEvent, Crashes, Fails, Setup, cluster_after}
+use Rattle.qq_cluster_model.specs.Cluster.{Cluster, ClusterEvent, Crashes, Fails, Setup, all_prints, cluster_after}
 use Rattle.qq_cluster_model.specs.Outcome.{Outcome, takers_after}
-use Rattle.qq_cluster_model.specs.Texts.{text_of}
 use Rattle.qq_cluster_laws.specs.Linked.{IsLinked}
 use Rattle.qq_cluster_laws.specs.Serves.{GivesUp, Happened, Seen, Serves, fails_at}
 use Rattle.qq_cluster_laws.specs.Traced.{HasNoCrash, IsBrokenAt, IsTracedAt}
@@ -19,12 +18,12 @@ module _ (setup : Setup) (c last : Cluster) (done : List ClusterEvent) (a b : �
   abbrev Stands : Cluster → Type 0
   Stands d = d ≡ last
 
-  pub happened-text : Happened setup c These Stands a b before later
-      → (last ≡ cluster_after c done) × (later.text ≡ before.text ++ text_of setup c done)
+  pub happened-outcome : Happened setup c These Stands a b before later
+      → (last ≡ cluster_after c done) × (later.printed ≡ before.printed ++ all_prints setup c done)
       × (later.takers ≡ takers_after setup c done before.takers)
-  happened-text did = (
+  happened-outcome did = (
     sym did.stands ∙ ap (cluster_after c) did.means,
-    did.says ∙ ap (λ es. before.text ++ text_of setup c es) did.means,
+    did.says ∙ ap (λ es. before.printed ++ all_prints setup c es) did.means,
     did.sees ∙ ap (λ es. takers_after setup c es before.takers) did.means,
   )
 

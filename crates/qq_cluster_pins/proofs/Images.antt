@@ -28,7 +28,8 @@ use Rattle.qq_session.specs.declared.shown.Shown.TheVariants.{Answered}
 use Rattle.qq_wal.specs.Running.{top}
 use Rattle.qq_wal_chain.specs.Lanes.{Lanes}
 use Rattle.qq_wal_chain.specs.Laws.{IsHonestImage, lanes_read}
-use Rattle.qq_cluster_model.specs.Cluster.{Cluster, ClusterEvent, Of, Setup, all_prints, cluster_after, members, new_cluster}
+use Rattle.qq_cluster_model.specs.Cluster.{Cluster, ClusterEvent, Setup, all_prints, cluster_after, members, new_cluster}
+use Rattle.qq_cluster_model.specs.declared.printed.Printed.TheVariants.{Of}
 use Rattle.qq_cluster_model.specs.ClusterLaws.{HasGroups}
 use Rattle.qq_cluster_laws.specs.Answers.{HasMajority, IsKept, KeepsAnswers}
 use Rattle.qq_cluster_laws.specs.Held.{MayHold, Supports, whole_at}

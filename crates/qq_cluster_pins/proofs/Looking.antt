@@ -1,5 +1,5 @@
 -- What takers see, in words.
-use Rattle.std.proofs.Common.{◌≡◌, ◌≢◌, ◌+◌, ◌-◌, ◌^◌, ◌++◌, ℕ, Bool, true, false, not, cond, List, [], ◌∷◌, Option, None, map, refl, sym, ap, ◌∙◌, subst, inl, inr, append-nil}
+use Rattle.std.proofs.Common.{◌≡◌, ◌≢◌, ◌+◌, ◌-◌, ◌^◌, ℕ, Bool, true, false, not, cond, List, [], ◌∷◌, Option, None, map, refl, sym, ap, ◌∙◌, subst, inl, inr, append-nil}
 use Rattle.std.specs.Prelude.{Contains, count_by, find, min, nat_eq}
 use Rattle.std.specs.List.{list_all}
 use Rattle.std.specs.Option.{option_map}
@@ -12,8 +12,7 @@ use Rattle.qq_model.specs.Limits.{is_ready}
 use Rattle.qq_model.specs.State.{State}
 use Rattle.qq_model.specs.declared.consumer.Consumer.{Consumer}
 use Rattle.qq_model.specs.declared.place.Row.{Row}
-use Rattle.qq_taker.specs.Takers.{Takers, hear}
-use Rattle.qq_taker.specs.declared.heard.Heard.{Heard}
+use Rattle.qq_taker.specs.Takers.{Takers}
 use Rattle.qq_taker.specs.declared.seats.Seat.{Seat}
 use Rattle.qq_cluster_model.specs.Cluster.{Setup, Cluster, ClusterEvent, Sets, Alike, At, NodeWrites, NodeSyncs, Fails, Crashes, FindsEach, Shows, SaysDown, SaysNoSuch, SaysUnroutable, SaysBusy, SaysEnded, members_in_order, state_at}
 use Rattle.qq_cluster_model.specs.Counts.{counts_of}
@@ -46,13 +45,6 @@ others-unseen setup c SaysNoSuch all none = refl
 others-unseen setup c SaysUnroutable all none = refl
 others-unseen setup c SaysBusy all none = refl
 others-unseen setup c SaysEnded all none = refl
-
--- ---- where nobody listens
-
-pub unheard : (h : Heard) (all : Takers) → all.heard ≡ None → hear h all ≡ all
-unheard h all nobody =
-    let with : Option (List Heard) → Takers = λ heard. record { held = all.held; heard = heard } in
-    ap with (ap (option_map (λ (list : List Heard). list ++ h ∷ [])) nobody ∙ sym nobody)
 
 -- ---- what is counted
 

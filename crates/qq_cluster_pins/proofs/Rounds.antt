@@ -8,7 +8,7 @@ use Rattle.qq_model.proofs.Soundness.{Contains-in, in_contains}
 use Rattle.qq_raft_model.specs.State.{Server}
 use Rattle.qq_cluster_model.specs.Cluster.{At, Cluster, ClusterEvent, NodeSyncs, NodeWrites, SaysBusy, Setup, cluster_after, cluster_happens}
 use Rattle.qq_cluster_model.specs.Queue.{Delivers, Event, Judges, Notices, Queue, waiting, waiting_by}
-use Rattle.qq_cluster_model.specs.Rules.{ForEach, Is, IsEmptied, IsJudgedWhere, IsNextJudged, IsNodeRound, IsNothing, IsNotice, IsPump, IsRound, IsSync, IsSynced, IsTold, IsWrite, IsWritten, MayRoll, Pumps, Rule, Tells, Then, Times, if_so, is_idle, is_quiet, is_quiet_at, is_settled, most_rounds, some_queue, waits_noticed, waits_synced, waits_written}
+use Rattle.qq_cluster_model.specs.Rules.{ForEach, Is, IsEmptied, IsJudgedWhere, IsNextJudged, IsNodeRound, IsNothing, IsNotice, IsPump, IsRound, IsSync, IsSynced, IsTold, IsWrite, IsWritten, MayRoll, Pumps, Rule, Follows, Then, Times, if_so, is_idle, is_quiet, is_quiet_at, is_settled, most_rounds, some_queue, waits_noticed, waits_synced, waits_written}
 use Rattle.qq_cluster_model.specs.Serving as does
 use Rattle.qq_taker.specs.declared.handed.Handed.{Handed}
 use Rattle.qq_taker.specs.declared.taker.Verdict.TheVariants.{Keep}
@@ -184,7 +184,7 @@ met-kept place (h ∷ more) c = record {
   is = record { early = At place (Judges Keep) ∷ []; late = []; is = refl; first = refl; second = refl };
 }
 
-met-tells : (place : ℕ) (event : Event) → Met (Tells place event) (does.tells place event)
+met-tells : (place : ℕ) (event : Event) → Met (Follows place event) (does.tells place event)
 met-tells place event =
     met-both (Is (At place event)) (IsTold place) (does.one (At place event)) (does.tell place) (λ c. refl) (λ c.
     met-times (length (c.queue place).untold) (IsNextJudged place) (does.keep_next place)
@@ -203,7 +203,7 @@ met-sync setup k c =
 
 met-notice : (k place : ℕ) → Met (IsNotice k place) (does.notice k place)
 met-notice k place c =
-    met-if (c.up k && waits_noticed k (c.queue place)) (Tells place (Notices k)) IsNothing c
+    met-if (c.up k && waits_noticed k (c.queue place)) (Follows place (Notices k)) IsNothing c
     (does.tells place (Notices k) c) [] (met-tells place (Notices k) c) refl
 
 met-round : (setup : Setup) → Met (IsRound setup) (does.round setup)
@@ -217,7 +217,7 @@ met-round setup =
     (does.each setup.places (does.notice k)) (met-sync setup k)
     (met-each setup.places (IsNotice k) (does.notice k) (met-notice k)))))
     (met-each setup.places IsEmptied does.empty (λ place c.
-    met-times (length (c.queue place).group.bag) (Tells place (Delivers 0)) (does.tells place (Delivers 0))
+    met-times (length (c.queue place).group.bag) (Follows place (Delivers 0)) (does.tells place (Delivers 0))
     (met-tells place (Delivers 0)) c))
 
 met-pumps : (most : ℕ) (setup : Setup) → Met (Pumps most setup) (does.pumps most setup)

@@ -38,8 +38,7 @@ pub use rules::{
 };
 pub use seeing::{
     a_taker_sees_a_run_of_deliveries, counts_are_of_ready_messages_and_consumers,
-    no_delivery_waits_between_lines, takers_see_what_is_shown,
-    who_listens_hears_answers_deliveries_and_refusals,
+    no_delivery_waits_between_lines, takers_see_what_is_shown, what_happens_is_printed_in_order,
 };
 pub use takers::{
     a_verdict_is_told, deliveries_wait_for_takers, takers_are_asked_until_nothing_waits,

@@ -11,10 +11,9 @@ ghost use Rattle.qq_recover.specs.Reading.{lanes_read as lanes_found, shown};
 ghost use Rattle.qq_wal.specs.Running.{top};
 ghost use Rattle.qq_wal_chain.specs.Lanes.{Lanes};
 ghost use Rattle.qq_wal_chain.specs.Laws.{IsHonestImage, lanes_read};
-ghost use Rattle.qq_cluster_model.specs.Cluster.{At, Alike, Cluster, ClusterEvent, Crashes, EndsEach, Fails, FindsEach, NodeSyncs, NodeWrites, Setup, cluster_after, cluster_happens};
+ghost use Rattle.qq_cluster_model.specs.Cluster.{At, Alike, Cluster, ClusterEvent, Crashes, EndsEach, Fails, FindsEach, NodeSyncs, NodeWrites, Setup, all_prints, cluster_after, cluster_happens};
 ghost use Rattle.qq_cluster_model.specs.Queue.{Delivers, Notices, Submits, Ticks};
 ghost use Rattle.qq_cluster_model.specs.Outcome.{Outcome, takers_after};
-ghost use Rattle.qq_cluster_model.specs.Texts.{text_of};
 ghost use Rattle.qq_entry.specs.declared.command.Unstamped.{Unstamped};
 ghost use Rattle.qq_cluster_laws.specs.Linked.{IsLinked, IsPromised};
 ghost use Rattle.qq_cluster_laws.specs.Serves.{GivesUp, Happened, Leads, Seen, Serves};
@@ -119,8 +118,7 @@ pub fn other_events_leave_the_disk()
 
 /// A law: of a call that served these events, or was given up, and of the disks then.
 ///
-/// - `text`: the cluster is as the events leave it, what they print was added to the text, and takers saw what they
-///   show.
+/// - `outcome`: the cluster is as the events leave it, what they print was added, and takers saw what they show.
 /// - `faults`: no node was crashed, no count of faults falls, and where a call of a node's disk failed its count rose,
 ///   or stands at its end.
 /// - `disks`: each disk tells what it told. Over one that tells, where the log was linked, the events are traced.
@@ -128,10 +126,10 @@ pub fn other_events_leave_the_disk()
 /// - `given_up`: some events happened, and no crash, the last of them perhaps in part; they are traced up to there.
 /// - `leads`: what follows by the rest of a rule, the whole rule allows.
 pub fn a_call_keeps_what_was_synced()
-    ensures text { (setup : Setup) (c last : Cluster) (done : List ClusterEvent) (a b : ℕ → Seen)
+    ensures outcome { (setup : Setup) (c last : Cluster) (done : List ClusterEvent) (a b : ℕ → Seen)
         (before later : Outcome) →
         Serves setup c (λ events. events ≡ done) (λ d. d ≡ last) a b before later →
-        (last ≡ cluster_after c done) × (later.text ≡ before.text ++ text_of setup c done)
+        (last ≡ cluster_after c done) × (later.printed ≡ before.printed ++ all_prints setup c done)
         × (later.takers ≡ takers_after setup c done before.takers) }
     ensures faults { (setup : Setup) (c last : Cluster) (done : List ClusterEvent) (a b : ℕ → Seen)
         (before later : Outcome) (k : ℕ) →
@@ -148,7 +146,7 @@ pub fn a_call_keeps_what_was_synced()
     ensures happened { (setup : Setup) (c last : Cluster) (done : List ClusterEvent)
         (a b : ℕ → Seen) (before later : Outcome) (k : ℕ) →
         Happened setup c (λ events. events ≡ done) (λ d. d ≡ last) a b before later →
-        (last ≡ cluster_after c done) × (later.text ≡ before.text ++ text_of setup c done)
+        (last ≡ cluster_after c done) × (later.printed ≡ before.printed ++ all_prints setup c done)
         × (later.takers ≡ takers_after setup c done before.takers)
         × ((b k).tells ≡ (a k).tells) × (Contains setup.nodes k → IsTrue (a k).tells →
         IsLinked setup c k (now (a k).past) →

@@ -1,9 +1,9 @@
 //! Laws of what takers see, and of what is left between lines: the functions do nothing, and their contracts are the
 //! laws.
-ghost use Rattle.std.specs.Prelude.{◌≡◌, ◌≢◌, ◌++◌, ◌∷◌, [], ℕ, List, Option, Some, None, true, false, Contains, drop, filter_map, find, length, map, take};
+ghost use Rattle.std.specs.Prelude.{◌≡◌, ◌≢◌, ◌++◌, ◌∷◌, [], ℕ, Bool, List, Option, Some, None, true, false, Contains, drop, filter_map, find, length, map, take};
 ghost use Rattle.qq_base.specs.Ids.{client, same_consumer};
 ghost use Rattle.qq_base.specs.declared.ids.ConsumerId.{ConsumerId};
-ghost use Rattle.qq_base.specs.declared.ids.QueueId.{QueueId};
+ghost use Rattle.qq_disk.specs.declared.image.Image.{Image};
 ghost use Rattle.qq_entry.specs.declared.answer.Delivery.{Delivery};
 ghost use Rattle.qq_entry.specs.declared.audit.AuditRow.{AuditRow};
 ghost use Rattle.qq_entry.specs.declared.queue.QueueArgs.{QueueArgs};
@@ -12,24 +12,21 @@ ghost use Rattle.qq_model.specs.Limits.{is_ready};
 ghost use Rattle.qq_model.specs.State.{State, empty_queue};
 ghost use Rattle.qq_model.specs.declared.consumer.Consumer.{Consumer};
 ghost use Rattle.qq_model.specs.declared.place.Row.{Row};
-ghost use Rattle.qq_raft_model.specs.State.{Server};
 ghost use Rattle.qq_raft_model.specs.Group.{Group};
+ghost use Rattle.qq_raft_msg.specs.declared.state.MemberState.{MemberState};
 ghost use Rattle.qq_script_lines.specs.declared.line.ScriptLine.{ScriptLine};
 ghost use Rattle.qq_session.specs.declared.shown.Shown.TheVariants.{Answered, Attached, Delivered, Dropped, HasEnded, IsBusy, NoLeader, NotTaken, Taken, WindowFull};
 ghost use Rattle.qq_taker.specs.Takers.{Free, Given, Gone, Held, Takers, taker_at};
-ghost use Rattle.qq_taker.specs.declared.handed.Handed.{Handed};
-ghost use Rattle.qq_taker.specs.declared.heard.Heard.{Heard};
-ghost use Rattle.qq_taker.specs.declared.heard.Refusal.TheVariants as refusals;
-ghost use Rattle.qq_taker.specs.declared.heard.What.TheVariants as whats;
 ghost use Rattle.qq_taker.specs.declared.seats.Seat.{Seat};
 ghost use Rattle.qq_taker.specs.declared.taker.Seen.{Seen};
 ghost use Rattle.qq_taker.specs.declared.taker.Verdict.{Verdict};
 ghost use Rattle.qq_taker.specs.declared.taker.Verdict.TheVariants.{Discard, Keep, Settle};
-ghost use Rattle.qq_cluster_model.specs.Cluster.{At, Busy, Cluster, ClusterEvent, Ended, IsDown, NoSuch, Of, Setup, State as StateOf, Stopped, Unroutable, cluster_after, new_cluster};
+ghost use Rattle.qq_cluster_model.specs.Cluster.{Alike, At, Cluster, ClusterEvent, Crashes, EndsEach, Fails, FindsEach, MutesEach, NodeSyncs, NodeWrites, SaysBusy, SaysDown, SaysEnded, SaysNoSuch, SaysUnroutable, Sets, Setup, all_prints, cluster_after, new_cluster};
+ghost use Rattle.qq_cluster_model.specs.declared.printed.Printed.TheVariants.{Busy, Ended, IsDown, NoSuch, Of, State as StateOf, Stopped, Unroutable};
 ghost use Rattle.qq_cluster_model.specs.Counts.{counts_of};
 ghost use Rattle.qq_cluster_model.specs.Laws.{IsBegun, deliveries_shown, seen_by};
 ghost use Rattle.qq_cluster_model.specs.Lines.{IsLine, IsRun};
-ghost use Rattle.qq_cluster_model.specs.Outcome.{all_heard, deliveries_among, sees, sees_all, takers_after};
+ghost use Rattle.qq_cluster_model.specs.Outcome.{deliveries_among, sees, sees_all, takers_after};
 ghost use Rattle.qq_cluster_model.specs.Queue.{Attaches, Event, after, all_said, begin, said};
 
 use qq_cluster_model::{nothing_waits_between_lines, takers_see_runs_of_deliveries};
@@ -41,43 +38,31 @@ use qq_taker::{
 /// A law: what a queue shows is what its takers see.
 ///
 /// - `given`, `taken`, `dropped`: a taker that is given to a consumer, takes a delivery, and is dropped.
-/// - `told`, `answered`, `refused`: no taker sees a delivery to a consumer without one, an answer, or that a command
-///   wasn't given to a leader.
-/// - `same`: nor that a consumer has a taker, which nobody hears either.
-/// - `unheard`: where nobody listens, what is told leaves all as it was.
+/// - `told`, `answered`, `refused`, `same`: no taker sees a delivery to a consumer without one, an answer, that a command
+///   wasn't given to a leader, or that a consumer has a taker.
 /// - `event`, `later`: what an event of a queue shows, they see, and what comes later after that.
 /// - `none`: they see nothing at any other event.
 pub fn takers_see_what_is_shown()
-    ensures given { (all : Takers) (place session number : ℕ) (seen : Option (List Seen)) →
+    ensures given { (all : Takers) (session number : ℕ) (seen : Option (List Seen)) →
         taker_at number all ≡ Some (Free seen) →
-        taker_at number (sees place (Attached session number) all) ≡ Some (Given seen) }
-    ensures taken { (all : Takers) (place number : ℕ) (seen : List Seen) (consumer : ConsumerId)
+        taker_at number (sees (Attached session number) all) ≡ Some (Given seen) }
+    ensures taken { (all : Takers) (number : ℕ) (seen : List Seen) (consumer : ConsumerId)
         (d : Delivery) (verdict : Verdict) → taker_at number all ≡ Some (Given (Some seen)) →
-        taker_at number (sees place (Taken number consumer d verdict) all) ≡ Some (Given (Some
+        taker_at number (sees (Taken number consumer d verdict) all) ≡ Some (Given (Some
         (seen ++ record { id = d.id; arrival = d.arrival; verdict = verdict } ∷ []))) }
-    ensures dropped { (all : Takers) (place session number : ℕ) (held : Held) →
+    ensures dropped { (all : Takers) (session number : ℕ) (held : Held) →
         taker_at number all ≡ Some held →
-        taker_at number (sees place (Dropped session number) all) ≡ Some Gone }
-    ensures told { (all : Takers) (place number : ℕ) (consumer : ConsumerId) (d : Delivery) →
-        taker_at number (sees place (Delivered consumer d) all) ≡ taker_at number all }
-    ensures answered { (all : Takers) (place number : ℕ) (row : AuditRow) →
-        taker_at number (sees place (Answered row) all) ≡ taker_at number all }
-    ensures refused { (all : Takers) (place number session id : ℕ) →
-        (taker_at number (sees place (NoLeader session) all) ≡ taker_at number all)
-        × (taker_at number (sees place (WindowFull session) all) ≡ taker_at number all)
-        × (taker_at number (sees place (HasEnded session) all) ≡ taker_at number all)
-        × (taker_at number (sees place (NotTaken session id) all) ≡ taker_at number all) }
-    ensures same { (all : Takers) (place session number : ℕ) →
-        sees place (IsBusy session number) all ≡ all }
-    ensures unheard { (all : Takers) (place session id : ℕ) (row : AuditRow) (d : Delivery)
-        (consumer : ConsumerId) → all.heard ≡ None →
-        (sees place (Answered row) all ≡ all) × (sees place (Delivered consumer d) all ≡ all)
-        × (sees place (NoLeader session) all ≡ all) × (sees place (WindowFull session) all ≡ all)
-        × (sees place (HasEnded session) all ≡ all)
-        × (sees place (NotTaken session id) all ≡ all) }
+        taker_at number (sees (Dropped session number) all) ≡ Some Gone }
+    ensures told { (all : Takers) (consumer : ConsumerId) (d : Delivery) →
+        sees (Delivered consumer d) all ≡ all }
+    ensures answered { (all : Takers) (row : AuditRow) → sees (Answered row) all ≡ all }
+    ensures refused { (all : Takers) (session id : ℕ) → (sees (NoLeader session) all ≡ all)
+        × (sees (WindowFull session) all ≡ all) × (sees (HasEnded session) all ≡ all)
+        × (sees (NotTaken session id) all ≡ all) }
+    ensures same { (all : Takers) (session number : ℕ) →
+        sees (IsBusy session number) all ≡ all }
     ensures event { (setup : Setup) (c : Cluster) (place : ℕ) (event : Event) (all : Takers) →
-        takers_after setup c (At place event ∷ []) all
-        ≡ sees_all place (said (c.queue place) event) all }
+        takers_after setup c (At place event ∷ []) all ≡ sees_all (said (c.queue place) event) all }
     ensures later { (setup : Setup) (c : Cluster) (events more : List ClusterEvent)
         (all : Takers) → takers_after setup c (events ++ more) all
         ≡ takers_after setup (cluster_after c events) more (takers_after setup c events all) }
@@ -90,40 +75,48 @@ pub fn takers_see_what_is_shown()
     takers_see_nothing_after_the_drop();
 }
 
-/// A law: what who listens hears.
+/// A law: what is printed, and which deliveries are among it.
 ///
-/// - `told`: answers, deliveries to consumers without a taker, and that commands weren't given to a leader, each with
-///   its queue, in the order in which they are printed.
-/// - `one`: after what was heard before.
-/// - `none`: nothing of takers, nor what is printed of no queue's clients.
-/// - `deliveries`: the deliveries among what was heard, in order.
-pub fn who_listens_hears_answers_deliveries_and_refusals()
-    ensures told { (row : AuditRow) (consumer : ConsumerId) (d : Delivery) →
-        all_heard (Of 3 (Answered row) ∷ Of 4 (Delivered consumer d) ∷ Of 3 (NoLeader 5)
-        ∷ Of 3 (WindowFull 6) ∷ Of 3 (HasEnded 7) ∷ Of 3 (NotTaken 8 9) ∷ [])
-        ≡ record { queue = record { 0 = 3 }; what = whats.Answer row }
-        ∷ record {
-          queue = record { 0 = 4 };
-          what = whats.Delivery (record { consumer = consumer; delivery = d });
-        }
-        ∷ record { queue = record { 0 = 3 }; what = whats.Refused 5 refusals.NoLeader }
-        ∷ record { queue = record { 0 = 3 }; what = whats.Refused 6 refusals.WindowFull }
-        ∷ record { queue = record { 0 = 3 }; what = whats.Refused 7 refusals.Ended }
-        ∷ record { queue = record { 0 = 3 }; what = whats.Refused 8 (refusals.NotTaken 9) }
-        ∷ [] }
-    ensures one { (all : Takers) (list : List Heard) (row : AuditRow) → all.heard ≡ Some list →
-        (sees 3 (Answered row) all).heard
-        ≡ Some (list ++ record { queue = record { 0 = 3 }; what = whats.Answer row } ∷ []) }
-    ensures none { (consumer : ConsumerId) (d : Delivery) (verdict : Verdict)
-        (server : Option Server) →
-        all_heard (Of 3 (Taken 1 consumer d verdict) ∷ Of 3 (Attached 5 1) ∷ Of 3 (Dropped 5 1)
-        ∷ Of 3 (IsBusy 5 1) ∷ Stopped 1 ∷ IsDown 1 ∷ NoSuch ∷ Unroutable ∷ Busy ∷ Ended
-        ∷ StateOf 3 1 server ∷ []) ≡ [] }
-    ensures deliveries { (queue : QueueId) (row : AuditRow) (first second : Handed) →
-        deliveries_among (record { queue = queue; what = whats.Answer row }
-        ∷ record { queue = queue; what = whats.Delivery first }
-        ∷ record { queue = queue; what = whats.Refused 5 refusals.NoLeader }
-        ∷ record { queue = queue; what = whats.Delivery second } ∷ []) ≡ first ∷ second ∷ [] }
+/// - `shown`, `later`: what an event of a queue shows is printed of that queue, in order, and what comes later after
+///   that.
+/// - `failed`, `told`: that a node stops, that one is down, that a message isn't there or is routed to no queue, that
+///   work is left, and that a session has ended.
+/// - `quiet`: nothing is printed at what clients and nodes do beside.
+/// - `deliveries`: those to consumers without a taker, whichever queue they are of, in order.
+/// - `none`: nothing else that is printed is one.
+pub fn what_happens_is_printed_in_order()
+    ensures shown { (setup : Setup) (c : Cluster) (place : ℕ) (event : Event) →
+        all_prints setup c (At place event ∷ []) ≡ map (Of place) (said (c.queue place) event) }
+    ensures later { (setup : Setup) (c : Cluster) (events more : List ClusterEvent) →
+        all_prints setup c (events ++ more)
+        ≡ all_prints setup c events ++ all_prints setup (cluster_after c events) more }
+    ensures failed { (setup : Setup) (c : Cluster) (k : ℕ) →
+        (all_prints setup c (Fails k ∷ []) ≡ Stopped k ∷ [])
+        × (all_prints setup c (SaysDown k ∷ []) ≡ IsDown k ∷ []) }
+    ensures told { (setup : Setup) (c : Cluster) →
+        (all_prints setup c (SaysNoSuch ∷ []) ≡ NoSuch ∷ [])
+        × (all_prints setup c (SaysUnroutable ∷ []) ≡ Unroutable ∷ [])
+        × (all_prints setup c (SaysBusy ∷ []) ≡ Busy ∷ [])
+        × (all_prints setup c (SaysEnded ∷ []) ≡ Ended ∷ []) }
+    ensures quiet { (setup : Setup) (c : Cluster) (k session : ℕ) (image : Image) (ops : ℕ → ℕ)
+        (auto muted : Bool) → (all_prints setup c (Sets auto ∷ []) ≡ [])
+        × (all_prints setup c (Alike (MutesEach session muted) ∷ []) ≡ [])
+        × (all_prints setup c (Alike (EndsEach session) ∷ []) ≡ [])
+        × (all_prints setup c (NodeWrites k ∷ []) ≡ [])
+        × (all_prints setup c (NodeSyncs k ∷ []) ≡ [])
+        × (all_prints setup c (Crashes k image ∷ []) ≡ [])
+        × (all_prints setup c (FindsEach k ops ∷ []) ≡ []) }
+    ensures deliveries { (row : AuditRow) (consumer other : ConsumerId) (d e : Delivery) →
+        deliveries_among (Of 3 (Answered row) ∷ Of 3 (Delivered consumer d) ∷ Of 3 (NoLeader 5)
+        ∷ Busy ∷ Of 4 (Delivered other e) ∷ [])
+        ≡ record { consumer = consumer; delivery = d }
+        ∷ record { consumer = other; delivery = e } ∷ [] }
+    ensures none { (row : AuditRow) (consumer : ConsumerId) (d : Delivery) (verdict : Verdict)
+        (member : Option MemberState) →
+        deliveries_among (Of 3 (Answered row) ∷ Of 3 (Taken 1 consumer d verdict)
+        ∷ Of 3 (Attached 5 1) ∷ Of 3 (Dropped 5 1) ∷ Of 3 (IsBusy 5 1) ∷ Of 3 (NoLeader 5)
+        ∷ Of 3 (WindowFull 6) ∷ Of 3 (HasEnded 7) ∷ Of 3 (NotTaken 8 9) ∷ Stopped 1 ∷ IsDown 1
+        ∷ NoSuch ∷ Unroutable ∷ Busy ∷ Ended ∷ StateOf 3 1 member ∷ []) ≡ [] }
 {}
 
 /// A law: what a queue's leader counts: the ready messages, and the consumers that weren't cancelled.

@@ -16,7 +16,7 @@ ghost use Rattle.qq_taker.specs.declared.taker.Verdict.{Verdict};
 ghost use Rattle.qq_taker.specs.declared.taker.Verdict.TheVariants.{Discard, Keep, Return, Settle};
 ghost use Rattle.qq_cluster_model.specs.Cluster.{At, Cluster, ClusterEvent, cluster_after, cluster_happens};
 ghost use Rattle.qq_cluster_model.specs.Queue.{Attaches, Event, Judges, Queue, happens, said};
-ghost use Rattle.qq_cluster_model.specs.Rules.{IsGiven, IsNextJudged, IsTold, Tells, Times};
+ghost use Rattle.qq_cluster_model.specs.Rules.{IsGiven, IsNextJudged, IsTold, Follows, Times};
 ghost use Rattle.qq_cluster_model.specs.Taking.{answers, seated, told_of, told_then, waiting_of, waiting_then};
 
 /// A law: what is handed out is told up to the first delivery whose consumer has a taker, and the others wait.
@@ -50,7 +50,7 @@ pub fn deliveries_wait_for_takers()
 ///   session, as a line would give it, none where the delivery is kept; then takers are asked about the others.
 pub fn takers_are_asked_until_nothing_waits()
     ensures event { (place : ℕ) (event : Event) (c : Cluster) (events : List ClusterEvent) →
-        Tells place event c events → (asked : List ClusterEvent)
+        Follows place event c events → (asked : List ClusterEvent)
         × (events ≡ At place event ∷ asked)
         × IsTold place (cluster_happens c (At place event)) asked }
     ensures none { (place : ℕ) (c : Cluster) (events : List ClusterEvent) →

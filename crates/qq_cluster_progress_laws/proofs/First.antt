@@ -19,7 +19,8 @@ use Rattle.qq_script_lines.specs.declared.line.ScriptLine.{ScriptLine}
 use Rattle.qq_session.specs.Publishing.{next_command, stamped}
 use Rattle.qq_session.specs.declared.shown.Shown.TheVariants.{Answered}
 use Rattle.qq_session.specs.Clients.{Client, may_hand, new_client}
-use Rattle.qq_cluster_model.specs.Cluster.{At, Cluster, ClusterEvent, Of, Setup, all_prints, cluster_after, cluster_happens, new_cluster}
+use Rattle.qq_cluster_model.specs.Cluster.{At, Cluster, ClusterEvent, Setup, all_prints, cluster_after, cluster_happens, new_cluster}
+use Rattle.qq_cluster_model.specs.declared.printed.Printed.TheVariants.{Of}
 use Rattle.qq_cluster_model.specs.ClusterLaws.{HasGroups, has_failure}
 use Rattle.qq_cluster_model.specs.Lines.{IsLine}
 use Rattle.qq_cluster_model.specs.Queue.{Queue, Submits, audit_rows}

@@ -140,33 +140,33 @@ abbrev pub IsIdle : Queue → Event → Type 0
 IsIdle q event = (happens q event ≡ q) × (said q event ≡ [])
 
 -- The same events but for some that do nothing, as long as no delivery waits; from there on any.
-abbrev pub Follows : Queue → List Event → List Event → Type 0
-Follows q events [] = events ≡ []
-Follows q events (event ∷ alone) =
-    ((rest : List Event) × (events ≡ event ∷ rest) × (IsQuiet (happens q event) → Follows (happens q event) rest alone))
-    ⊎ (IsIdle q event × Follows q events alone)
+abbrev pub Condenses : Queue → List Event → List Event → Type 0
+Condenses q events [] = events ≡ []
+Condenses q events (event ∷ alone) =
+    ((rest : List Event) × (events ≡ event ∷ rest) × (IsQuiet (happens q event) → Condenses (happens q event) rest alone))
+    ⊎ (IsIdle q event × Condenses q events alone)
 
-pub follows-same : (q : Queue) (events alone : List Event) → events ≡ alone → Follows q events alone
+pub follows-same : (q : Queue) (events alone : List Event) → events ≡ alone → Condenses q events alone
 follows-same q events [] is = is
 follows-same q events (event ∷ alone) is = inl (alone, is, λ _. follows-same (happens q event) alone alone refl)
 
-pub follows-then : (q : Queue) (a b c : List Event) (second : Queue → List Event) → IsQuiet q → Follows q a b
-    → (IsQuiet (after q a) → Follows (after q a) c (second (after q a))) → Follows q (a ++ c) (b ++ second (after q b))
+pub follows-then : (q : Queue) (a b c : List Event) (second : Queue → List Event) → IsQuiet q → Condenses q a b
+    → (IsQuiet (after q a) → Condenses (after q a) c (second (after q a))) → Condenses q (a ++ c) (b ++ second (after q b))
 follows-then q a [] c second waits first next =
-    subst (λ (l : List Event). (IsQuiet (after q l) → Follows (after q l) c (second (after q l)))
-    → Follows q (l ++ c) (second q)) (sym first) (λ go. go waits) next
+    subst (λ (l : List Event). (IsQuiet (after q l) → Condenses (after q l) c (second (after q l)))
+    → Condenses q (l ++ c) (second q)) (sym first) (λ go. go waits) next
 follows-then q a (event ∷ b) c second waits (inl (rest, is, go)) next =
     inl (
       rest ++ c,
       ap (λ (l : List Event). l ++ c) is,
       λ quiet.
           follows-then (happens q event) rest b c second quiet (go quiet)
-          (subst (λ (l : List Event). IsQuiet (after q l) → Follows (after q l) c (second (after q l))) is next),
+          (subst (λ (l : List Event). IsQuiet (after q l) → Condenses (after q l) c (second (after q l))) is next),
     )
 follows-then q a (event ∷ b) c second waits (inr (idle, rest)) next =
     inr (
       idle,
-      subst (λ (r : Queue). Follows q (a ++ c) (b ++ second (after r b))) (sym idle.0)
+      subst (λ (r : Queue). Condenses q (a ++ c) (b ++ second (after r b))) (sym idle.0)
           (follows-then q a b c second waits rest next),
     )
 
@@ -183,7 +183,7 @@ pub record Cut (q : Queue) (events : List Event) (alone : List Event) : Type 0 w
   pub is : events ≡ first ++ second
   pub same : IsSame q first alone
 
-pub cut-at : (q : Queue) (events first rest : List Event) → Follows q events (first ++ rest) → QuietBefore q first
+pub cut-at : (q : Queue) (events first rest : List Event) → Condenses q events (first ++ rest) → QuietBefore q first
     → Cut q events first
 cut-at q events [] rest follows quiet = record {
   first = [];
@@ -229,7 +229,7 @@ cut-at q events (event ∷ next ∷ first) rest (inr (idle, go)) quiet =
     }
 
 -- all of them, where no delivery waits
-pub same-at : (q : Queue) (events alone : List Event) → Follows q events alone → AllQuiet q alone
+pub same-at : (q : Queue) (events alone : List Event) → Condenses q events alone → AllQuiet q alone
     → IsSame q events alone
 same-at q events [] follows quiet =
     subst (λ (l : List Event). IsSame q l []) (sym follows) (record { after_is = refl; said_is = refl })

@@ -31,7 +31,8 @@ use Rattle.qq_session.specs.declared.shown.Shown.TheVariants.{Answered}
 use Rattle.qq_session.proofs.Audits.{audit-front}
 use Rattle.qq_session.proofs.NumberingLemmas.{stamped-stamp}
 use Rattle.qq_session.proofs.PrintedAnswers.{front-contains}
-use Rattle.qq_cluster_model.specs.Cluster.{Cluster, ClusterEvent, At, Of, Setup, all_prints, cluster_after, cluster_happens, members, new_cluster, parts_of, prints}
+use Rattle.qq_cluster_model.specs.Cluster.{Cluster, ClusterEvent, At, Setup, all_prints, cluster_after, cluster_happens, members, new_cluster, parts_of, prints}
+use Rattle.qq_cluster_model.specs.declared.printed.Printed.TheVariants.{Of}
 use Rattle.qq_cluster_model.specs.ClusterLaws.{HasGroups, has_failure}
 use Rattle.qq_cluster_model.specs.Lines.{IsLine}
 use Rattle.qq_cluster_model.specs.Queue.{Queue, Event, Submits, after, all_said, audit_rows, begin, happens, leader, moves, submit_to}
@@ -58,7 +59,7 @@ use Rattle.qq_cluster_progress_laws.proofs.Line.{AreWithin, can-commit, counted-
 use Rattle.qq_cluster_progress_laws.proofs.Playing.{AreCounted, IsPlain, Plays, counted-after, parts-append, parts-fine, plays-print, queue-is, round-plays}
 use Rattle.qq_cluster_progress_laws.proofs.Printing.{Awaits, IsOther, row_after, audit-more}
 use Rattle.qq_cluster_progress_laws.proofs.Rounds.{IsSettled}
-use Rattle.qq_cluster_progress_laws.proofs.Following.{AllQuiet, Cut, Follows, IsQuiet, IsSame, cut-at, free-quiet, none-round, quiet-after, quiet-before, said-append, same-at, same-then, silent-waits}
+use Rattle.qq_cluster_progress_laws.proofs.Following.{AllQuiet, Cut, Condenses, IsQuiet, IsSame, cut-at, free-quiet, none-round, quiet-after, quiet-before, said-append, same-at, same-then, silent-waits}
 use Rattle.qq_cluster_progress_laws.proofs.Sending.{CanCommit, plan_of, with_entry}
 use Rattle.qq_raft_model.specs.Leading.{append_to}
 use Rattle.qq_raft_msg.specs.declared.rpc.Rpc.{Rpc}
@@ -226,9 +227,9 @@ module _ (handed : AreHanded) (knows : KnowsCommits) (keeps : KeepsCommits) (wit
       ran = first-run handed (members setup place) setup.nodes plan e one first messages sends among
 
       begun-follows : (es : List ClusterEvent) → Plays setup c1 es (λ p. turn_round (c1.queue p))
-          → Follows one (parts_of place es) (turn_round one)
+          → Condenses one (parts_of place es) (turn_round one)
       begun-follows es plays =
-          subst (λ (r : Queue). IsQuiet r → Follows r (parts_of place es) (turn_round r)) one-is (plays.each place here)
+          subst (λ (r : Queue). IsQuiet r → Condenses r (parts_of place es) (turn_round r)) one-is (plays.each place here)
           quiet-one
 
       parts-are : (es fs : List ClusterEvent) → early ≡ es ++ fs
@@ -245,7 +246,7 @@ module _ (handed : AreHanded) (knows : KnowsCommits) (keeps : KeepsCommits) (wit
           → AllByRecursion IsPlain fs → CutAt plan e first one one [] (turn_round one) → Ends early
       first-ends es fs split plays plain at =
           let k = cut-at one (parts_of place es) at.first at.rest
-          (subst (λ (l : List Event). Follows one (parts_of place es) l) at.is (begun-follows es plays)) at.quiet in
+          (subst (λ (l : List Event). Condenses one (parts_of place es) l) at.is (begun-follows es plays)) at.quiet in
           record {
             front = at.first;
             cut = record {
@@ -306,11 +307,11 @@ module _ (handed : AreHanded) (knows : KnowsCommits) (keeps : KeepsCommits) (wit
           let begins : List Event = turn_round one in
           let r : Queue = after one begins in
           let r_is : (cluster_after c1 es).queue place ≡ r = queue-first es begun all-quiet in
-          let follows : Follows r (parts_of place fs) (turn_round r) =
-          subst (λ (x : Queue). IsQuiet x → Follows x (parts_of place fs) (turn_round x)) r_is (next.each place here)
+          let follows : Condenses r (parts_of place fs) (turn_round r) =
+          subst (λ (x : Queue). IsQuiet x → Condenses x (parts_of place fs) (turn_round x)) r_is (next.each place here)
           (quiet-after one begins quiet-one all-quiet) in
           let k = cut-at r (parts_of place fs) at.first at.rest
-          (subst (λ (l : List Event). Follows r (parts_of place fs) l) at.is follows) at.quiet in
+          (subst (λ (l : List Event). Condenses r (parts_of place fs) l) at.is follows) at.quiet in
           record {
             front = begins ++ at.first;
             cut = record {

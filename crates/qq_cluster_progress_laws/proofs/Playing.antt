@@ -13,11 +13,12 @@ use Rattle.qq_base.specs.Fronts.{put}
 use Rattle.qq_raft_protocol.specs.Facts.{In}
 use Rattle.qq_raft_model.specs.Group.{group_after}
 use Rattle.qq_raft_model.specs.Group.Event.{Take}
-use Rattle.qq_cluster_model.specs.Cluster.{Cluster, ClusterEvent, Sets, Alike, At, NodeWrites, NodeSyncs, Fails, Crashes, FindsEach, Shows, SaysDown, SaysNoSuch, SaysUnroutable, SaysBusy, SaysEnded, Of, Setup, all_prints, cluster_after, cluster_happens, part_of, parts_of, prints}
+use Rattle.qq_cluster_model.specs.Cluster.{Cluster, ClusterEvent, Sets, Alike, At, NodeWrites, NodeSyncs, Fails, Crashes, FindsEach, Shows, SaysDown, SaysNoSuch, SaysUnroutable, SaysBusy, SaysEnded, Setup, all_prints, cluster_after, cluster_happens, part_of, parts_of, prints}
+use Rattle.qq_cluster_model.specs.declared.printed.Printed.TheVariants.{Of}
 use Rattle.qq_cluster_model.specs.ClusterLaws.{has_failure, is_failure}
 use Rattle.qq_cluster_model.specs.Queue.{Queue, Event, Delivers, Notices, Syncs, Writes, after, all_said, happens, said, waiting}
 use Rattle.qq_cluster_model.specs.Taking.{delivered, told_then, waiting_then}
-use Rattle.qq_cluster_model.specs.Rules.{ForEach, IsEmptied, IsNodeRound, IsNothing, IsNotice, IsRound, IsSync, IsSynced, IsWrite, IsWritten, MayRoll, Tells, Times, if_so, some_queue, waits_noticed, waits_synced, waits_written}
+use Rattle.qq_cluster_model.specs.Rules.{ForEach, IsEmptied, IsNodeRound, IsNothing, IsNotice, IsRound, IsSync, IsSynced, IsWrite, IsWritten, MayRoll, Follows, Times, if_so, some_queue, waits_noticed, waits_synced, waits_written}
 use Rattle.qq_cluster_model.proofs.Counts.{IsCounted, counted-all}
 use Rattle.qq_cluster_model.proofs.Groups.{after-append}
 use Rattle.qq_cluster_model.proofs.Takerless.{AreAt, GivesNone, IsAt, IsTakerless, at-elsewhere, at-other, at-own, at-up, delivered-still, emptied-at, queue-at, takerless-all, tells-at, told-nothing, untold-still}
@@ -25,7 +26,7 @@ use Rattle.qq_session.specs.declared.shown.Shown.{Shown}
 use Rattle.qq_cluster_progress_laws.specs.Alone.{round_alone, turn_where, turns}
 use Rattle.qq_cluster_progress_laws.specs.Soon.{AreOnce}
 use Rattle.qq_cluster_progress_laws.proofs.Hearing.{contains-map}
-use Rattle.qq_cluster_progress_laws.proofs.Following.{AllQuiet, Follows, IsQuiet, follows-same, follows-then, said-append, same-at}
+use Rattle.qq_cluster_progress_laws.proofs.Following.{AllQuiet, Condenses, IsQuiet, follows-same, follows-then, said-append, same-at}
 
 -- ---- clusters
 
@@ -75,7 +76,7 @@ IsPlain _ = ⊥
 pub record Plays (setup : Setup) (c : Cluster) (events : List ClusterEvent) (alone : ℕ → List Event) : Type 0 where
   pub up : (cluster_after c events).up ≡ c.up
   pub each : (place : ℕ) → In place setup.places → IsQuiet (c.queue place)
-      → Follows (c.queue place) (parts_of place events) (alone place)
+      → Condenses (c.queue place) (parts_of place events) (alone place)
   pub plain : AllByRecursion IsPlain events
 
 pub played : (setup : Setup) (c : Cluster) (events : List ClusterEvent) (alone : ℕ → List Event) (place : ℕ)
@@ -111,11 +112,11 @@ plays-then setup c events early late first second is a b =
     subst (λ es. Plays setup c es (λ place. first place ++ second (after (c.queue place) (first place)))) (sym is) (record {
       up = ap (λ (d : Cluster). d.up) (after-both c early late) ∙ b.up ∙ a.up;
       each = λ place here quiet.
-          subst (λ (l : List Event). Follows (c.queue place) l
+          subst (λ (l : List Event). Condenses (c.queue place) l
           (first place ++ second (after (c.queue place) (first place)))) (sym (parts-append place early late))
           (follows-then (c.queue place) (parts_of place early) (first place) (parts_of place late) second quiet
           (a.each place here quiet)
-          (subst (λ (r : Queue). IsQuiet r → Follows r (parts_of place late) (second r)) (queue-is c early place)
+          (subst (λ (r : Queue). IsQuiet r → Condenses r (parts_of place late) (second r)) (queue-is c early place)
           (b.each place here)));
       plain = AllByRecursion-append IsPlain early late a.plain b.plain;
     })
@@ -131,7 +132,7 @@ failed : (es fs : List ClusterEvent) → es ≡ fs → has_failure fs ≡ true �
 failed es fs is fails fine = false≢true (sym fine ∙ ap has_failure is ∙ fails)
 
 nothing-plays : (setup : Setup) (c : Cluster) (events : List ClusterEvent) (alone : ℕ → List Event) → events ≡ []
-    → ((place : ℕ) → In place setup.places → Follows (c.queue place) [] (alone place)) → Plays setup c events alone
+    → ((place : ℕ) → In place setup.places → Condenses (c.queue place) [] (alone place)) → Plays setup c events alone
 nothing-plays setup c events alone is each =
     subst (λ es. Plays setup c es alone) (sym is)
     (record { up = refl; each = λ place here free. each place here; plain = tt })
@@ -148,7 +149,7 @@ not-any test (p ∷ places) place none (inr later) =
 said-still : (q : Queue) → [] ≡ delivered (told_then q.untold q.seats []) ++ []
 said-still q = sym (ap (λ (l : List Shown). l ++ []) (delivered-still q))
 
-writes-nothing : (j : ℕ) (q : Queue) → waits_written j q ≡ false → Follows q [] (Writes j ∷ [])
+writes-nothing : (j : ℕ) (q : Queue) → waits_written j q ≡ false → Condenses q [] (Writes j ∷ [])
 writes-nothing j q none =
     let zero' : waiting j q.group ≡ 0 = (let le = ltb-false 0 (waiting j q.group) none in omega (arith, le)) in
     inr (
@@ -188,7 +189,7 @@ write-plays setup j c events up is fine =
 put-own : {A : Type 0} (k : ℕ) (x : A) (f : ℕ → A) → f k ≡ x → put k x f ≡ f
 put-own k x f is = fun_ext (λ i. put-each (λ (n : ℕ) y. y ≡ f n) k x f (sym is) (λ n other. refl) i)
 
-syncs-nothing : (j : ℕ) (q : Queue) → IsCounted q → waits_synced j q ≡ false → Follows q [] (Syncs j ∷ [])
+syncs-nothing : (j : ℕ) (q : Queue) → IsCounted q → waits_synced j q ≡ false → Condenses q [] (Syncs j ∷ [])
 syncs-nothing j q counted none =
     let le = ltb-false (q.synced j) (length (q.group.seat j).ops) none in
     let most = (counted j).synced_is in
@@ -235,7 +236,7 @@ sync-plays setup j c events counted up is fine =
 record PlaysEach (c : Cluster) (places : List ℕ) (events : List ClusterEvent) (alone : Queue → List Event) : Type 0 where
   up : (cluster_after c events).up ≡ c.up
   own : (place : ℕ) → In place places → IsQuiet (c.queue place)
-      → Follows (c.queue place) (parts_of place events) (alone (c.queue place))
+      → Condenses (c.queue place) (parts_of place events) (alone (c.queue place))
   others : (place : ℕ) → (In place places → ⊥) → parts_of place events ≡ []
   plain : AllByRecursion IsPlain events
 
@@ -254,7 +255,7 @@ joined c p places events alone once early late is a next =
       up = ap (λ es. (cluster_after c es).up) is ∙ ap (λ (x : Cluster). x.up) (after-both c early late) ∙ b.up ∙ a.up;
       own = λ place here quiet. elim here [
         | inl same ↦
-            subst (λ (l : List Event). Follows (c.queue place) l (alone (c.queue place)))
+            subst (λ (l : List Event). Condenses (c.queue place) l (alone (c.queue place)))
             (sym (split place
             ∙ ap (λ (l : List Event). parts_of place early ++ l)
             (b.others place (λ later. once.0 (subst (λ (n : ℕ). In n places) same later)))
@@ -267,9 +268,9 @@ joined c p places events alone once early late is a next =
             ] in
             let still : d.queue place ≡ c.queue place =
             queue-is c early place ∙ ap (after (c.queue place)) (a.others place gone) in
-            subst (λ (l : List Event). Follows (c.queue place) l (alone (c.queue place)))
+            subst (λ (l : List Event). Condenses (c.queue place) l (alone (c.queue place)))
             (sym (split place ∙ ap (λ (l : List Event). l ++ parts_of place late) (a.others place gone)))
-            (subst (λ (r : Queue). IsQuiet r → Follows r (parts_of place late) (alone r)) still (b.own place later)
+            (subst (λ (r : Queue). IsQuiet r → Condenses r (parts_of place late) (alone r)) still (b.own place later)
             quiet)
       ];
       others = λ place gone.
@@ -287,11 +288,11 @@ plain-at place event at = absurd at
 
 -- what happens to one queue alone
 at-one : (c : Cluster) (place : ℕ) (events : List ClusterEvent) (alone : Queue → List Event) → AreAt place events
-    → Follows (c.queue place) (parts_of place events) (alone (c.queue place)) → PlaysEach c (place ∷ []) events alone
+    → Condenses (c.queue place) (parts_of place events) (alone (c.queue place)) → PlaysEach c (place ∷ []) events alone
 at-one c place events alone at own = record {
   up = at-up place c events at;
   own = λ p here quiet. elim here [
-    | inl same ↦ subst (λ (n : ℕ). Follows (c.queue n) (parts_of n events) (alone (c.queue n))) (sym same) own
+    | inl same ↦ subst (λ (n : ℕ). Condenses (c.queue n) (parts_of n events) (alone (c.queue n))) (sym same) own
     | inr none ↦ absurd none
   ];
   others = λ p gone. at-elsewhere place p events (λ same. gone (inl (sym same))) at;
@@ -299,25 +300,25 @@ at-one c place events alone at own = record {
 }
 
 -- an event, and then what takers answer
-parts-told : (place : ℕ) (event : Event) (c : Cluster) (events : List ClusterEvent) (is : Tells place event c events)
+parts-told : (place : ℕ) (event : Event) (c : Cluster) (events : List ClusterEvent) (is : Follows place event c events)
     → parts_of place events ≡ event ∷ parts_of place is.late
 parts-told place event c events is =
     ap (parts_of place) (is.is ∙ ap (λ es. es ++ is.late) is.first)
     ∙ ap (λ (l : List Event). l ++ parts_of place is.late) (at-own place event)
 
-queue-told : (place : ℕ) (event : Event) (c : Cluster) (events : List ClusterEvent) (is : Tells place event c events)
+queue-told : (place : ℕ) (event : Event) (c : Cluster) (events : List ClusterEvent) (is : Follows place event c events)
     → (cluster_after c is.early).queue place ≡ happens (c.queue place) event
 queue-told place event c events is =
     ap (λ es. (cluster_after c es).queue place) is.first ∙ queue-at c place event
 
-none-told : (place : ℕ) (event : Event) (c : Cluster) (events : List ClusterEvent) (is : Tells place event c events)
+none-told : (place : ℕ) (event : Event) (c : Cluster) (events : List ClusterEvent) (is : Follows place event c events)
     → IsQuiet (happens (c.queue place) event) → is.late ≡ []
 none-told place event c events is quiet =
     told-nothing place (cluster_after c is.early) is.late
     (ap (λ (q : Queue). q.untold) (queue-told place event c events is) ∙ quiet) is.second
 
-tells-follows : (place : ℕ) (event : Event) (c : Cluster) (events : List ClusterEvent) → Tells place event c events
-    → Follows (c.queue place) (parts_of place events) (event ∷ [])
+tells-follows : (place : ℕ) (event : Event) (c : Cluster) (events : List ClusterEvent) → Follows place event c events
+    → Condenses (c.queue place) (parts_of place events) (event ∷ [])
 tells-follows place event c events is =
     inl (
       parts_of place is.late,
@@ -327,10 +328,10 @@ tells-follows place event c events is =
 
 -- and so often
 each-follows : (place n : ℕ) (event : Event) (c : Cluster) (events : List ClusterEvent)
-    → Times n (Tells place event) c events → Follows (c.queue place) (parts_of place events) (replicate n event)
+    → Times n (Follows place event) c events → Condenses (c.queue place) (parts_of place events) (replicate n event)
 each-follows place zero event c events is = ap (parts_of place) is
 each-follows place (suc n) event c events is =
-    let told : Tells place event c is.early = is.first in
+    let told : Follows place event c is.early = is.first in
     let rest : List Event = parts_of place is.late in
     inl (
       parts_of place told.late ++ rest,
@@ -341,9 +342,9 @@ each-follows place (suc n) event c events is =
           told.is ∙ ap (λ es. told.early ++ es) none ∙ append-nil told.early in
           let here : (cluster_after c is.early).queue place ≡ happens (c.queue place) event =
           ap (λ es. (cluster_after c es).queue place) all ∙ queue-told place event c is.early told in
-          subst (λ (l : List Event). Follows (happens (c.queue place) event) l (replicate n event))
+          subst (λ (l : List Event). Condenses (happens (c.queue place) event) l (replicate n event))
           (sym (ap (λ es. parts_of place es ++ rest) none))
-          (subst (λ (r : Queue). Follows r rest (replicate n event)) here
+          (subst (λ (r : Queue). Condenses r rest (replicate n event)) here
           (each-follows place n event (cluster_after c is.early) is.late is.second))),
     )
 
@@ -355,18 +356,18 @@ notice-plays : (j : ℕ) (up : Bool) (c : Cluster) (place : ℕ) (events : List 
     → IsNotice j place c events → PlaysEach c (place ∷ []) events (notices up j)
 notice-plays j up c place events up_is is =
     of (up && waits_noticed j (c.queue place)) refl
-    (subst (λ (b : Bool). if_so (b && waits_noticed j (c.queue place)) (Tells place (Notices j)) IsNothing c events)
+    (subst (λ (b : Bool). if_so (b && waits_noticed j (c.queue place)) (Follows place (Notices j)) IsNothing c events)
     up_is is)
   where
     of : (b : Bool) → (up && waits_noticed j (c.queue place)) ≡ b
-        → if_so b (Tells place (Notices j)) IsNothing c events → PlaysEach c (place ∷ []) events (notices up j)
+        → if_so b (Follows place (Notices j)) IsNothing c events → PlaysEach c (place ∷ []) events (notices up j)
     of true waits told =
         at-one c place events (notices up j) (tells-at place (Notices j) tt c events told)
-        (subst (λ (b : Bool). Follows (c.queue place) (parts_of place events) (cond b (Notices j ∷ []) [])) (sym waits)
+        (subst (λ (b : Bool). Condenses (c.queue place) (parts_of place events) (cond b (Notices j ∷ []) [])) (sym waits)
         (tells-follows place (Notices j) c events told))
     of false waits nothing =
         at-one c place events (notices up j) (subst (AreAt place) (sym nothing) tt)
-        (subst (λ (b : Bool). Follows (c.queue place) (parts_of place events) (cond b (Notices j ∷ []) [])) (sym waits)
+        (subst (λ (b : Bool). Condenses (c.queue place) (parts_of place events) (cond b (Notices j ∷ []) [])) (sym waits)
         (ap (parts_of place) nothing))
 
 notices-play : (j : ℕ) (up : Bool) (places : List ℕ) → AreOnce places → (c : Cluster) (events : List ClusterEvent)

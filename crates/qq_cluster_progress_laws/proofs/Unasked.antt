@@ -16,7 +16,7 @@ use Rattle.qq_cluster_model.specs.Cluster.{Cluster, ClusterEvent, Sets, Alike, A
 use Rattle.qq_cluster_model.specs.ClusterLaws.{verdict_at, verdicts}
 use Rattle.qq_taker.specs.declared.taker.Verdict.{Verdict}
 use Rattle.qq_cluster_model.specs.Queue.{Queue, Event, Mutes, Ends, Submits, TellsEnded, TellsNotTaken, Attaches, Judges, Resends, Fetches, Downs, Ticks, Delivers, Loses, Copies, Writes, Syncs, Notices, Stops, Finds, after, happens, rows_told}
-use Rattle.qq_cluster_model.specs.Rules.{ForEach, Is, IsEmptied, IsFirstTick, IsFound, IsNodeRound, IsNothing, IsNotice, IsOpening, IsPump, IsRestart, IsRound, IsSync, IsSynced, IsWrite, IsWritten, MayRoll, Pumps, Rule, Tells, Then, if_so, is_idle, most_rounds, some_queue, tick_at, waits_noticed, waits_synced, waits_written}
+use Rattle.qq_cluster_model.specs.Rules.{ForEach, Is, IsEmptied, IsFirstTick, IsFound, IsNodeRound, IsNothing, IsNotice, IsOpening, IsPump, IsRestart, IsRound, IsSync, IsSynced, IsWrite, IsWritten, MayRoll, Pumps, Rule, Follows, Then, if_so, is_idle, most_rounds, some_queue, tick_at, waits_noticed, waits_synced, waits_written}
 use Rattle.qq_cluster_model.proofs.Takerless.{GivesNone, IsTakerless, emptied-is, takerless-all, takerless-begin, tells-one}
 use Rattle.qq_cluster_progress_laws.proofs.Playing.{queue-is}
 use Rattle.qq_entry.specs.Command.{seq_of}
@@ -234,7 +234,7 @@ of-sync setup k c =
 
 of-notice : (k place : ℕ) → AllowsUnasked (IsNotice k place)
 of-notice k place c =
-    of-test (c.up k && waits_noticed k (c.queue place)) (Tells place (Notices k)) IsNothing
+    of-test (c.up k && waits_noticed k (c.queue place)) (Follows place (Notices k)) IsNothing
     (λ d es free is. of-one es (At place (Notices k) ∷ []) (tt, tt) (tells-one place (Notices k) d es tt (free place) is))
     of-nothing c
 

@@ -18,7 +18,8 @@ use Rattle.qq_script_lines.specs.declared.line.ScriptLine.TheVariants as lines
 use Rattle.qq_session.specs.Publishing.{next_command}
 use Rattle.qq_session.specs.Clients.{may_hand}
 use Rattle.qq_session.specs.declared.shown.Shown.TheVariants.{Answered}
-use Rattle.qq_cluster_model.specs.Cluster.{Setup, Cluster, ClusterEvent, At, Of, all_prints, cluster_after, members}
+use Rattle.qq_cluster_model.specs.Cluster.{Setup, Cluster, ClusterEvent, At, all_prints, cluster_after, members}
+use Rattle.qq_cluster_model.specs.declared.printed.Printed.TheVariants.{Of}
 use Rattle.qq_cluster_model.specs.Lines.{publish_with}
 use Rattle.qq_cluster_model.specs.Queue.{Queue, Submits, audit_rows, leader}
 use Rattle.qq_cluster_model.specs.Rules.{Is, Then, is_ended, not_taken}

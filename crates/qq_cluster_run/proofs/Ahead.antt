@@ -8,11 +8,13 @@ use Rattle.qq_route.specs.declared.setup.Setup.{Setup}
 use Rattle.qq_ports.specs.Lines.{first_line, TakesLine, BeginsTooLong, LosesSome, LosesPiece, FirstLineLeads}
 use Rattle.qq_ports.specs.Streams.{SinkState, Streams, Writes, WritesPart}
 use Rattle.qq_cluster_model.specs.Outcome.{Outcome}
+use Rattle.qq_cluster_model.specs.declared.printed.Printed.{Printed}
+use Rattle.qq_cluster_run.specs.Texts.{texts_in}
 use Rattle.qq_cluster_run.specs.Endings.{Ending}
 use Rattle.qq_cluster_run.specs.Inputs.{Input, inputs_of, EndsWith}
 use Rattle.qq_cluster_run.specs.Reading.{Ends, says}
 use Rattle.qq_cluster_run.specs.Service.{HasOpened}
-use Rattle.qq_cluster_run.specs.Serving.{Claims, Histories, Run, Serves, EndsRun, Behind, run_behind, setup_in, all_text, text_behind, audits_behind, Goes, Served}
+use Rattle.qq_cluster_run.specs.Serving.{Claims, Histories, Run, Serves, EndsRun, Behind, run_behind, setup_in, all_printed, text_behind, audits_behind, Goes, Served}
 use Rattle.qq_cluster_run.specs.Runs.{EndsBy, HasAnswers, BreaksOff, IsCut, IsRefusal, MayEnd, IsDoneOver}
 use Rattle.qq_cluster_run.specs.Setup.{cluster_over}
 use Rattle.qq_cluster_run.specs.Troubles.{Trouble}
@@ -173,8 +175,8 @@ Waiting had s (Some bytes) None run a b pending = ⊥
 Waiting had s (Some bytes) (Some rest) run a b pending = WaitsOver had s bytes rest run a b pending
 
 pub waiting_start : (had : Histories) (s : Setup) (left : Option (List ℕ)) (Stands : Run → Type 0) (a : SinkState)
-    (before later : Outcome) → before.text ≡ [] → (o : HasOpened had s Stands before later)
-    → Waiting had s left (prepend_known [] left) (first_run o) a a later.text
+    (before later : Outcome) → before.printed ≡ [] → (o : HasOpened had s Stands before later)
+    → Waiting had s left (prepend_known [] left) (first_run o) a a (texts_in s later.printed)
 unfolding opened
 waiting_start had s None Stands a before later none o =
     led had s [] [] (first_run o) (opened had s [] Stands before later o) refl
@@ -183,7 +185,8 @@ waiting_start had s (Some bytes) Stands a before later none o = record {
     behind = opened had s (inputs_of bytes) Stands before later o;
     run_is = refl;
     first = [];
-    parts = sym (o.says ∙ ap (λ (l : List ℕ). l ++ all_text (cluster_over s o.logs) o.events) none);
+    parts = sym (ap (texts_in s)
+        (o.says ∙ ap (λ (l : List Printed). l ++ all_printed (cluster_over s o.logs) o.events) none));
     written = Appends-nil a.written;
   };
   ends = ([], refl);

@@ -1,12 +1,13 @@
 -- A line is read and served.
-use Rattle.std.proofs.Common.{◌≡◌, ℕ, ◌+◌, List, [], ◌++◌, Option, Some, None, refl, inl, inr}
+use Rattle.std.proofs.Common.{◌≡◌, ℕ, ◌+◌, List, [], ◌++◌, Option, Some, None, refl, ap, ◌∙◌, inl, inr}
+use Rattle.std.proofs.lemmas.Grind.{flat_map-append}
 use Rattle.qq_log.specs.Stable.{Stable}
 use Rattle.qq_route.specs.declared.setup.Setup.{Setup}
 use Rattle.qq_script_lines.specs.declared.line.ScriptLine.{ScriptLine}
 use Rattle.qq_script_lines.specs.declared.line.ScriptLine.TheVariants.{Attach, Crash, Restart}
 use Rattle.qq_ports.specs.Lines.{first_line, TakesLine, LosesSome, FirstLineLeads}
 use Rattle.qq_ports.specs.Streams.{Streams}
-use Rattle.qq_cluster_model.specs.Cluster.{Setup as ClusterSetup, Cluster, ClusterEvent}
+use Rattle.qq_cluster_model.specs.Cluster.{Setup as ClusterSetup, Cluster, ClusterEvent, all_prints}
 use Rattle.qq_cluster_model.specs.Outcome.{Outcome}
 use Rattle.qq_cluster_model.specs.Texts.{text_of}
 use Rattle.qq_cluster_run.specs.declared.stop.AskStop.{AskStop}
@@ -20,6 +21,7 @@ use Rattle.qq_cluster_run.specs.Runs.{HasStopped, IsRefusal, stop_of}
 use Rattle.qq_cluster_run.specs.Service.{HasServed, HasServeCause}
 use Rattle.qq_cluster_run.specs.Serving.{Claims, Histories, Run, EndsSpent, EndsDamaged, EndsLost, EndsUnsupported, IsReadOf, StopsAt, MayStop, EndsRun, cluster_in, setup_in}
 use Rattle.qq_cluster_run.specs.Setup.{cluster_setup}
+use Rattle.qq_cluster_run.specs.Texts.{text_in, texts_in}
 use Rattle.qq_cluster_run.specs.Troubles.{Trouble, YardFails, DiskFails, FilesBreak, QueueIsFound, NumberEnds, TakerIsGone}
 use Rattle.qq_cluster_run.proofs.Ahead.{Going, going_ends, going_stops}
 
@@ -44,7 +46,8 @@ answers_from had s run line bytes Stands old new asks so = record {
     next_is = refl;
     said_is = refl;
   };
-  says = so.says;
+  says = ap (texts_in s) so.says
+      ∙ flat_map-append (text_in s) old.printed (all_prints (setup_in s run) (cluster_in s run) so.more);
   sees = so.sees;
 }
 

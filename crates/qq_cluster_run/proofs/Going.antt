@@ -5,7 +5,8 @@ use Rattle.std.proofs.lemmas.List.{length-append}
 use Rattle.std.proofs.lemmas.Grind.{flat_map-append}
 use Rattle.qq_route.specs.declared.setup.Setup.{Setup}
 use Rattle.qq_script_lines.specs.declared.line.ScriptLine.{ScriptLine}
-use Rattle.qq_cluster_model.specs.Cluster.{Setup as ClusterSetup, Cluster, ClusterEvent, Printed, new_cluster, cluster_happens, cluster_after, prints, all_prints}
+use Rattle.qq_cluster_model.specs.Cluster.{Setup as ClusterSetup, Cluster, ClusterEvent, new_cluster, cluster_happens, cluster_after, prints, all_prints}
+use Rattle.qq_cluster_model.specs.declared.printed.Printed.{Printed}
 use Rattle.qq_cluster_model.specs.Lines.{IsLine, IsScript}
 use Rattle.qq_cluster_model.specs.Texts.{printed_text, text_of}
 use Rattle.qq_cluster_run.specs.Inputs.{Input}

@@ -25,4 +25,5 @@ mod Said
 pub mod Says
 pub mod Serial
 pub mod Statuses
+pub mod RowTexts
 pub mod Worked

@@ -7,6 +7,8 @@ use Rattle.qq_route.specs.declared.setup.Setup.{Setup}
 use Rattle.qq_ports.specs.Lines.{first_line, ahead, TakesLine, FirstLineLeads}
 use Rattle.qq_ports.specs.Streams.{SinkState, Streams, Writes}
 use Rattle.qq_cluster_model.specs.Outcome.{Outcome}
+use Rattle.qq_cluster_model.specs.declared.printed.Printed.{Printed}
+use Rattle.qq_cluster_run.specs.Texts.{texts_in}
 use Rattle.qq_cluster_model.specs.Texts.{audits_text}
 use Rattle.qq_cluster_run.specs.declared.status.TheConstants.{DONE}
 use Rattle.qq_cluster_run.specs.Answers.{Answers, IsServedToEnd}
@@ -28,13 +30,15 @@ pub record LoopsOn (had : Histories) (s : Setup) (Stands : Run → Type 0) (star
   pub waits : Waiting had s start now run a b pending
 
 pub loops_start : (had : Histories) (s : Setup) (Stands : Run → Type 0) (left : Option (List ℕ)) (a : SinkState)
-    (own : List ℕ) (before later : Outcome) → own ≡ [] → before.text ≡ [] → HasOpened had s Stands before later
-    → LoopsOn had s Stands left (ahead own left) a a 0 later.text
+    (own : List ℕ) (before later : Outcome) → own ≡ [] → before.printed ≡ [] → HasOpened had s Stands before later
+    → LoopsOn had s Stands left (ahead own left) a a 0 (texts_in s later.printed)
 loops_start had s Stands left a own before later none empty so = record {
   run = first_run so;
   lines = refl;
   stands = so.stands;
-  waits = subst (λ (p : List ℕ). Waiting had s left (prepend_known p left) (first_run so) a a later.text) (sym none)
+  waits =
+      subst (λ (p : List ℕ). Waiting had s left (prepend_known p left) (first_run so) a a (texts_in s later.printed))
+      (sym none)
       (waiting_start had s left Stands a before later empty so);
 }
 
@@ -49,13 +53,14 @@ loops_written had s Stands start now a b c served pending piece so is grown =
 pub loops_line : (had : Histories) (s : Setup) (Stands : Run → Type 0) (start now next : Option (List ℕ))
     (a b : SinkState) (served : ℕ) (run : Run) (line : List ℕ) (before later : Outcome)
     → ((bytes : List ℕ) → FirstLineLeads bytes (first_line bytes)) → run.lines ≡ served → Going had s start now run a b → TakesLine now next line
-    → before.text ≡ [] → Answers had s run (Some line) Stands before later
-    → LoopsOn had s Stands start next a b (served + 1) later.text
+    → before.printed ≡ [] → Answers had s run (Some line) Stands before later
+    → LoopsOn had s Stands start next a b (served + 1) (texts_in s later.printed)
 loops_line had s Stands start now next a b served run line before later law lines going takes none so = record {
   run = so.next;
   lines = ap (λ (r : Run). r.lines) so.serves.next_is ∙ ap (λ (n : ℕ). n + 1) lines;
   stands = so.stands;
-  waits = subst (Waiting had s start next so.next a b) (sym (so.says ∙ ap (λ (l : List ℕ). l ++ so.said) none))
+  waits = subst (Waiting had s start next so.next a b)
+      (sym (so.says ∙ ap (λ (l : List Printed). texts_in s l ++ so.said) none))
       (waiting_line had s start now next run so.next line so.said a b law going takes so.serves);
 }
 

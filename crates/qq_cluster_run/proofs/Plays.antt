@@ -7,7 +7,7 @@ use Rattle.sha2.specs.Hashers.{Holds256}
 use Rattle.qq_base.specs.declared.ids.ConsumerId.{ConsumerId}
 use Rattle.qq_cluster_model.specs.Outcome.{deliveries_among, delivery_in}
 use Rattle.qq_taker.specs.declared.handed.Handed.{Handed}
-use Rattle.qq_taker.specs.declared.heard.Heard.{Heard}
+use Rattle.qq_cluster_model.specs.declared.printed.Printed.{Printed}
 use Rattle.qq_drill.specs.Drill.{Drill, after_by, draw_next, hear, is_side_of}
 use Rattle.qq_drill.specs.declared.draw.Deed.{Deed}
 use Rattle.qq_drill.specs.declared.draw.Deed.TheVariants.{Sends, Gets, Subscribes, Settles, Returns, Crashes, Ticks}
@@ -55,32 +55,32 @@ pub hear-both : (a b : List Handed) (s : Drill) → hear_each b (hear_each a s) 
 hear-both [] b s = refl
 hear-both (h ∷ a) b s = hear-both a b (hear h.consumer h.delivery.id s)
 
-pub among-both : (a b : List Heard) → deliveries_among (a ++ b) ≡ deliveries_among a ++ deliveries_among b
+pub among-both : (a b : List Printed) → deliveries_among (a ++ b) ≡ deliveries_among a ++ deliveries_among b
 among-both a b = filter_map-append delivery_in a b
 
 -- one of those from an index on, and then the rest
-among-more : (list : List Heard) (i : ℕ) (h : Heard) → i < length list → h ≡ get_or list i h
-    → deliveries_among (drop i list) ≡ deliveries_among (h ∷ []) ++ deliveries_among (drop (i + 1) list)
-among-more list i h lt is =
-    ap deliveries_among (drop_more list i h lt ∙ ap (λ (x : Heard). x ∷ drop (i + 1) list) (sym is))
-    ∙ among-both (h ∷ []) (drop (i + 1) list)
+among-more : (list : List Printed) (i : ℕ) (p : Printed) → i < length list → p ≡ get_or list i p
+    → deliveries_among (drop i list) ≡ deliveries_among (p ∷ []) ++ deliveries_among (drop (i + 1) list)
+among-more list i p lt is =
+    ap deliveries_among (drop_more list i p lt ∙ ap (λ (x : Printed). x ∷ drop (i + 1) list) (sym is))
+    ∙ among-both (p ∷ []) (drop (i + 1) list)
 
-pub hear-more : (list : List Heard) (i : ℕ) (h : Heard) (old new last : Drill) → i < length list → h ≡ get_or list i h
-    → new ≡ hear_each (deliveries_among (h ∷ [])) old → hear_each (deliveries_among (drop i list)) old ≡ last
+pub hear-more : (list : List Printed) (i : ℕ) (p : Printed) (old new last : Drill) → i < length list → p ≡ get_or list i p
+    → new ≡ hear_each (deliveries_among (p ∷ [])) old → hear_each (deliveries_among (drop i list)) old ≡ last
     → hear_each (deliveries_among (drop (i + 1) list)) new ≡ last
-hear-more list i h old new last lt is one so =
+hear-more list i p old new last lt is one so =
     ap (hear_each (deliveries_among (drop (i + 1) list))) one
-    ∙ hear-both (deliveries_among (h ∷ [])) (deliveries_among (drop (i + 1) list)) old
-    ∙ ap (λ (l : List Handed). hear_each l old) (sym (among-more list i h lt is)) ∙ so
+    ∙ hear-both (deliveries_among (p ∷ [])) (deliveries_among (drop (i + 1) list)) old
+    ∙ ap (λ (l : List Handed). hear_each l old) (sym (among-more list i p lt is)) ∙ so
 
-pub count-more : (list : List Heard) (i : ℕ) (h : Heard) (old one new all : ℕ) → i < length list → h ≡ get_or list i h
-    → new ≡ old + one → one ≡ length (deliveries_among (h ∷ [])) → old + length (deliveries_among (drop i list)) ≡ all
+pub count-more : (list : List Printed) (i : ℕ) (p : Printed) (old one new all : ℕ) → i < length list → p ≡ get_or list i p
+    → new ≡ old + one → one ≡ length (deliveries_among (p ∷ [])) → old + length (deliveries_among (drop i list)) ≡ all
     → new + length (deliveries_among (drop (i + 1) list)) ≡ all
-count-more list i h old one new all lt is sum same so =
+count-more list i p old one new all lt is sum same so =
     let split : length (deliveries_among (drop i list))
-    ≡ length (deliveries_among (h ∷ [])) + length (deliveries_among (drop (i + 1) list)) =
-    ap length (among-more list i h lt is)
-    ∙ length-append (deliveries_among (h ∷ [])) (deliveries_among (drop (i + 1) list)) in
+    ≡ length (deliveries_among (p ∷ [])) + length (deliveries_among (drop (i + 1) list)) =
+    ap length (among-more list i p lt is)
+    ∙ length-append (deliveries_among (p ∷ [])) (deliveries_among (drop (i + 1) list)) in
     omega (arith, sum, same, so, split)
 
 -- ---- what is known

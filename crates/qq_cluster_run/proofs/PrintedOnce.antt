@@ -23,7 +23,8 @@ use Rattle.qq_model.proofs.Soundness.{in_contains}
 use Rattle.qq_route.specs.declared.setup.Setup.{Setup}
 use Rattle.qq_session.specs.ExactlyOne.{ExactlyOne}
 use Rattle.qq_session.specs.Printed.{IsConfirmedPublish}
-use Rattle.qq_cluster_model.specs.Cluster.{Setup as ClusterSetup, ClusterEvent, Of}
+use Rattle.qq_cluster_model.specs.Cluster.{Setup as ClusterSetup, ClusterEvent}
+use Rattle.qq_cluster_model.specs.declared.printed.Printed.TheVariants.{Of}
 use Rattle.qq_cluster_model.specs.ClusterLaws.{HasGroups, IsTrueOf, PrintsWhatIsTrue}
 use Rattle.qq_session.specs.Clients.{sender, ended_by}
 use Rattle.qq_session.specs.declared.shown.Shown.{Shown}

@@ -1,8 +1,8 @@
 -- The queues of a run's setup, as a cluster has them.
-use Rattle.std.proofs.Common.{◌≡◌, ◌<◌, ◌+◌, ℕ, zero, suc, List, [], ◌∷◌, length, map, Option, Some, refl, sym, ap, subst, ◌∙◌, inl, inr, arith}
+use Rattle.std.proofs.Common.{◌≡◌, ◌<◌, ◌+◌, ◌-◌, ℕ, zero, suc, List, [], ◌∷◌, length, map, Option, Some, None, refl, sym, ap, subst, ◌∙◌, inl, inr, arith}
 use Rattle.std.specs.Prelude.{Contains, nat_eq, slice_get}
 use Rattle.std.specs.List.{AllByRecursion, range_with_len}
-use Rattle.std.proofs.lemmas.Bool.{cond-true, cond-false, cond_both, eq-eqb}
+use Rattle.std.proofs.lemmas.Bool.{cond-true, cond-false, cond_both, eq-eqb, ne_eqb}
 use Rattle.std.proofs.lemmas.Bool.Decides.{eqb_tells}
 use Rattle.qq_base.specs.declared.ids.NodeId.{NodeId}
 use Rattle.qq_base.specs.declared.ids.QueueId.{QueueId}
@@ -111,6 +111,37 @@ found-index nodes rows at row are is =
     let number : place_of row ≡ 0 + at + 1 = (at-index nodes 0 rows at row are is).number in
     let same : place_of row ≡ at + 1 = omega (arith, number) in
     ap (row_at rows) (sym same) ∙ all-index (IsFound rows) rows at row (each-found nodes 0 rows are) is
+
+-- the row of a number is found at its index, if there is one
+row-after : (nodes before : ℕ) (rows : List QueueRow) (at : ℕ) → AreQueuesAfter nodes before rows
+    → row_at rows (before + 1 + at) ≡ slice_get rows at
+row-after nodes before [] zero are = refl
+row-after nodes before [] (suc at) are = refl
+row-after nodes before (row ∷ rows) zero are =
+    cond-true _ (Some row) (row_at rows (before + 1 + 0))
+    (eq-eqb (place_of row) (before + 1 + 0) (let e = are.0.number in omega (arith, e)))
+row-after nodes before (row ∷ rows) (suc at) are =
+    cond-false _ (Some row) (row_at rows (before + 1 + suc at))
+    (ne_eqb (place_of row) (before + 1 + suc at) (λ e. let own = are.0.number in absurd (omega (arith, e, own))))
+    ∙ ap (row_at rows) (let e : before + 1 + suc at ≡ before + 1 + 1 + at = omega arith in e)
+    ∙ row-after nodes (before + 1) rows at are.1
+
+pub row-index : (nodes : ℕ) (rows : List QueueRow) (place : ℕ) → AreQueuesAfter nodes 0 rows → 0 < place
+    → row_at rows place ≡ slice_get rows (place - 1)
+row-index nodes rows place are some =
+    ap (row_at rows) (let e : place ≡ 0 + 1 + (place - 1) = omega (arith, some) in e)
+    ∙ row-after nodes 0 rows (place - 1) are
+
+-- no row has the number 0
+no-zero : (nodes before : ℕ) (rows : List QueueRow) → AreQueuesAfter nodes before rows → row_at rows 0 ≡ None
+no-zero nodes before [] are = refl
+no-zero nodes before (row ∷ rows) are =
+    cond-false _ (Some row) (row_at rows 0)
+    (ne_eqb (place_of row) 0 (λ e. let own = are.0.number in absurd (omega (arith, e, own))))
+    ∙ no-zero nodes (before + 1) rows are.1
+
+pub row-zero : (nodes : ℕ) (rows : List QueueRow) → AreQueuesAfter nodes 0 rows → row_at rows 0 ≡ None
+row-zero nodes rows are = no-zero nodes 0 rows are
 
 -- ---- groups
 

@@ -8,16 +8,17 @@ use Rattle.qq_cluster_run.specs.declared.stop.AskStop.{AskStop}
 use Rattle.qq_cluster_run.specs.declared.stop.AskStop.TheVariants as asks
 use Rattle.qq_cluster_run.specs.Inputs.{Input, inputs_of}
 use Rattle.qq_cluster_run.specs.Serving.{Histories, Run, Serves, EndsRun, Goes, cluster_in, setup_in}
+use Rattle.qq_cluster_run.specs.Texts.{texts_in}
 use Rattle.qq_cluster_run.specs.Troubles.{Trouble}
 
--- A line was served, a text grows by what it prints, and takers see what it shows. `Stands` says what represents a run.
+-- A line was served, what it prints has this text, and takers see what it shows. `Stands` says what represents a run.
 pub record Answers (had : Histories) (s : Setup) (run : Run) (input : Input) (Stands : Run → Type 0)
     (before later : Outcome) : Type 0 where
   pub next : Run
   pub stands : Stands next
   pub said : List ℕ
   pub serves : Serves had s run input said next
-  pub says : later.text ≡ before.text ++ said
+  pub says : texts_in s later.printed ≡ texts_in s before.printed ++ said
   pub sees : later.takers ≡ takers_after (setup_in s run) (cluster_in s run) serves.events before.takers
 
 -- why a line has no answer

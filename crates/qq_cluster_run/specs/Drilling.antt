@@ -16,7 +16,7 @@ use Rattle.qq_drill.specs.Drill.{Drill, after_step, hear, is_sixteenth, last_res
 use Rattle.qq_cluster_model.specs.Cluster.{Setup as ClusterSetup, Cluster, ClusterEvent, all_prints, cluster_after}
 use Rattle.qq_cluster_model.specs.Confirmed.{is_confirmed_row}
 use Rattle.qq_cluster_model.specs.Lines.{IsScript}
-use Rattle.qq_cluster_model.specs.Outcome.{all_heard, deliveries_among}
+use Rattle.qq_cluster_model.specs.Outcome.{deliveries_among}
 use Rattle.qq_cluster_model.specs.Queue.{audit_rows, has_leader}
 use Rattle.qq_cluster_model.specs.Texts.{audits_text, text_of}
 use Rattle.qq_cluster_run.specs.Definitions.{counted}
@@ -90,7 +90,7 @@ tell list text k =
 
 -- events have happened
 abbrev pub know : ClusterSetup → Cluster → List ClusterEvent → Known → Known
-know setup c events k = tell (deliveries_among (all_heard (all_prints setup c events))) (text_of setup c events) k
+know setup c events k = tell (deliveries_among (all_prints setup c events)) (text_of setup c events) k
 
 abbrev pub begin_part : Part → Known → Known
 begin_part part k = record k { drill = after_part part k.drill }

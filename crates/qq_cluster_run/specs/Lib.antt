@@ -15,4 +15,5 @@ pub mod Service
 pub mod Serving
 pub mod Setup
 pub mod Statuses
+pub mod Texts
 pub mod Troubles

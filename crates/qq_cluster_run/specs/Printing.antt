@@ -9,7 +9,8 @@ use Rattle.qq_laws.specs.Published.{is_confirmed}
 use Rattle.qq_route.specs.declared.setup.Setup.{Setup}
 use Rattle.qq_script_lines.specs.declared.line.ScriptLine.{ScriptLine}
 use Rattle.qq_words.specs.declared.options.Options.{Options}
-use Rattle.qq_cluster_model.specs.Cluster.{Printed, new_cluster, all_prints}
+use Rattle.qq_cluster_model.specs.Cluster.{new_cluster, all_prints}
+use Rattle.qq_cluster_model.specs.declared.printed.Printed.{Printed}
 use Rattle.qq_cluster_model.specs.ClusterLaws.{has_failure, findings, verdicts}
 use Rattle.qq_cluster_model.specs.Queue.{Queue, audit_rows}
 use Rattle.qq_cluster_run.specs.Inputs.{Input, inputs_of}

@@ -2,14 +2,13 @@
 use Rattle.std.specs.Prelude.{◌≡◌, ℕ, List, ◌++◌}
 use Rattle.qq_route.specs.declared.setup.Setup.{Setup}
 use Rattle.qq_script_lines.specs.declared.line.ScriptLine.{ScriptLine}
-use Rattle.qq_cluster_model.specs.Cluster.{Setup as ClusterSetup, ClusterEvent, new_cluster}
+use Rattle.qq_cluster_model.specs.Cluster.{Setup as ClusterSetup, ClusterEvent, all_prints, new_cluster}
 use Rattle.qq_cluster_model.specs.Lines.{IsLine}
 use Rattle.qq_cluster_model.specs.Outcome.{Outcome, takers_after}
 use Rattle.qq_cluster_model.specs.Rules.{IsOpening}
-use Rattle.qq_cluster_model.specs.Texts.{text_of}
 use Rattle.qq_cluster_run.specs.declared.stop.AskStop.{AskStop}
 use Rattle.qq_cluster_run.specs.declared.stop.AskStop.TheVariants.{Ended, NoMemory}
-use Rattle.qq_cluster_run.specs.Serving.{Histories, HasRecovered, MayStop, Run, after_all, all_seen, all_text}
+use Rattle.qq_cluster_run.specs.Serving.{Histories, HasRecovered, MayStop, Run, after_all, all_printed, all_seen}
 use Rattle.qq_cluster_run.specs.Setup.{CanBegin, Logs, cluster_over}
 use Rattle.qq_cluster_run.specs.Troubles.{Trouble}
 
@@ -23,7 +22,7 @@ pub record HasOpened (had : Histories) (s : Setup) (Stands : Run → Type 0) (be
   pub opened : HasRecovered events
   pub disks : had (cluster_over s logs) events
   pub stands : Stands (record { lines = 0; logs = logs; events = events })
-  pub says : later.text ≡ before.text ++ all_text (cluster_over s logs) events
+  pub says : later.printed ≡ before.printed ++ all_printed (cluster_over s logs) events
   pub sees : later.takers ≡ all_seen (cluster_over s logs) events before.takers
 
 -- a line was served, by events that it allows
@@ -33,7 +32,7 @@ pub record HasServed (had : Histories) (setup : ClusterSetup) (events : List Clu
   pub allowed : IsLine setup line (after_all setup events) more
   pub disks : had setup (events ++ more)
   pub stands : Stands (events ++ more)
-  pub says : later.text ≡ before.text ++ text_of setup (after_all setup events) more
+  pub says : later.printed ≡ before.printed ++ all_prints setup (after_all setup events) more
   pub sees : later.takers ≡ takers_after setup (after_all setup events) more before.takers
 
 -- why the line of this number isn't served

@@ -12,7 +12,8 @@ use Rattle.qq_script_lines.specs.declared.fault.ScriptFault.TheVariants.{NoSuch}
 use Rattle.qq_script_lines.specs.declared.line.ScriptLine.{ScriptLine}
 use Rattle.qq_script_lines.specs.declared.line.ScriptLine.TheVariants.{Attach, Crash, Restart}
 use Rattle.qq_taker.specs.Takers.{Takers}
-use Rattle.qq_cluster_model.specs.Cluster.{Setup as ClusterSetup, Cluster, ClusterEvent, new_cluster, cluster_after, members}
+use Rattle.qq_cluster_model.specs.Cluster.{Setup as ClusterSetup, Cluster, ClusterEvent, new_cluster, cluster_after, members, all_prints}
+use Rattle.qq_cluster_model.specs.declared.printed.Printed.{Printed}
 use Rattle.qq_cluster_model.specs.ClusterLaws.{findings}
 use Rattle.qq_cluster_model.specs.Laws.{IsBegun}
 use Rattle.qq_cluster_model.specs.Lines.{IsLine, IsRun, nodes_of}
@@ -30,7 +31,10 @@ use Rattle.qq_cluster_run.specs.Troubles.{Damage, damage_ending, Trouble, YardFa
 abbrev pub after_all : ClusterSetup → List ClusterEvent → Cluster
 after_all setup events = cluster_after (new_cluster setup) events
 
--- what these events have printed
+-- what these events have printed, and its text
+abbrev pub all_printed : ClusterSetup → List ClusterEvent → List Printed
+all_printed setup events = all_prints setup (new_cluster setup) events
+
 abbrev pub all_text : ClusterSetup → List ClusterEvent → List ℕ
 all_text setup events = text_of setup (new_cluster setup) events
 

@@ -18,6 +18,7 @@ mod serving;
 mod setups;
 pub mod status;
 mod stop;
+mod texts;
 
 pub use asking::{ask, read_line, refuse_long_line};
 pub use audit::{Rows, add_audit};
@@ -44,3 +45,4 @@ pub use setups::{
     clusters_begin_with_new_logs,
 };
 pub use stop::{AskStop, PrintFault, Stop};
+pub use texts::add_texts;

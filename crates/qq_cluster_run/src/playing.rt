@@ -1,8 +1,10 @@
 //! What a drill has shown so far, and the line that is written of it in the end.
-ghost use Rattle.std.specs.Prelude.{◌≡◌, ◌<◌, ◌≤◌, ◌++◌, ◌∷◌, [], codes, length, string_bytes, IfOk, IsOkUnless, OnOk};
+ghost use Rattle.std.specs.Prelude.{◌≡◌, ◌<◌, ◌≤◌, ◌+◌, ◌-◌, ◌^◌, ◌++◌, ◌∷◌, [], codes, length, string_bytes, IfErr, IfOk, IsOkUnless, OnOk};
+ghost use Rattle.std.specs.List.{cons_option};
+ghost use Rattle.qq_base.specs.Causes.{SpentOnlyWhere};
 ghost use Rattle.qq_route.specs.Setup.{state_of};
 ghost use Rattle.qq_defs.specs.Runnable.{IsRunnable};
-ghost use Rattle.qq_cluster_model.specs.Outcome.{deliveries_among};
+ghost use Rattle.qq_cluster_model.specs.Outcome.{deliveries_among, delivery_shown};
 ghost use Rattle.qq_drill.specs.Drill.{new_drill};
 ghost use Rattle.qq_cluster_run.specs.Drilling.{Known, after_part, begin_part, drill_setup, first_digits, first_known, hear_each, part_lines, summary, tell};
 ghost use Rattle.qq_cluster_run.specs.Playing.{Knows};
@@ -10,12 +12,13 @@ ghost use Rattle.qq_cluster_run.specs.Playing.{Knows};
 use crate::definitions::push_count;
 use crate::drilling::{Part, part_lines};
 use qq_base::Memory;
+use qq_cluster_model::Printed;
 use qq_defs::setups_may_be_run;
 use qq_drill::Drill;
 use qq_route::Setup;
 use qq_script::push_text;
 use qq_script_lines::ScriptLine;
-use qq_taker::{Heard, What};
+use qq_session::Shown;
 use qq_words::{LOG_BYTES, NodeCount};
 use sha2::{Digest, Sha256};
 use std::alloc::Global;
@@ -40,33 +43,62 @@ pub fn drill_setup(alloc: Global, nodes: NodeCount) -> Result<Setup, Memory>
     Setup::plain(alloc, nodes.number(), 3, 4, LOG_BYTES)
 }
 
-// What was told is heard, if it is a delivery; how many deliveries that is.
-fn hear(drill: &mut Drill, heard: &Heard) -> Result<u64, Memory>
+// What a queue shows is heard, if it is a delivery; how many deliveries that is.
+fn hear_shown(drill: &mut Drill, shown: &Shown) -> Result<u64, Memory>
     ensures ok { OnOk result
-        (drill.new ≡ hear_each (deliveries_among (heard.now ∷ [])) drill.old) }
-    ensures count { IfOk result (λ count. count ≡ length (deliveries_among (heard.now ∷ []))) }
+        (drill.new ≡ hear_each (cons_option (delivery_shown shown.now) []) drill.old) }
+    ensures count { IfOk result (λ count.
+        count ≡ length (cons_option (delivery_shown shown.now) [])) }
     ensures few { IfOk result (λ count. count ≤ 1) }
     ensures want { IsOkUnless result Memory.Want }
 {
-    match &heard.what {
-        What::Delivery(handed) => {
-            drill.hear(handed.consumer, handed.delivery.id)?;
+    match shown {
+        Shown::Delivered { consumer, delivery } => {
+            drill.hear(*consumer, delivery.id)?;
             Ok(1)
         }
-        What::Answer(_) => Ok(0),
-        What::Refused { .. } => Ok(0),
+        Shown::Answered { .. } => Ok(0),
+        Shown::NoLeader { .. } => Ok(0),
+        Shown::WindowFull { .. } => Ok(0),
+        Shown::HasEnded { .. } => Ok(0),
+        Shown::NotTaken { .. } => Ok(0),
+        Shown::Attached { .. } => Ok(0),
+        Shown::IsBusy { .. } => Ok(0),
+        Shown::Taken { .. } => Ok(0),
+        Shown::Dropped { .. } => Ok(0),
     }
 }
 
-// The deliveries among what was told are heard, in order; how many they are.
-fn hear_each(drill: &mut Drill, list: &[Heard]) -> Result<u64, Memory>
+// What was printed is.
+fn hear(drill: &mut Drill, printed: &Printed) -> Result<u64, Memory>
+    ensures ok { OnOk result
+        (drill.new ≡ hear_each (deliveries_among (printed.now ∷ [])) drill.old) }
+    ensures count { IfOk result (λ count.
+        count ≡ length (deliveries_among (printed.now ∷ []))) }
+    ensures few { IfOk result (λ count. count ≤ 1) }
+    ensures want { IsOkUnless result Memory.Want }
+{
+    match printed {
+        Printed::Of { shown, .. } => hear_shown(drill, shown),
+        Printed::Stopped { .. } => Ok(0),
+        Printed::IsDown { .. } => Ok(0),
+        Printed::NoSuch => Ok(0),
+        Printed::Unroutable => Ok(0),
+        Printed::Busy => Ok(0),
+        Printed::Ended => Ok(0),
+        Printed::State { .. } => Ok(0),
+    }
+}
+
+// The deliveries among what was printed are heard, in order; how many they are.
+fn hear_each(drill: &mut Drill, list: &[Printed]) -> Result<u64, Memory>
     ensures ok { OnOk result (drill.new ≡ hear_each (deliveries_among list.now) drill.old) }
     ensures count { IfOk result (λ count. count ≡ length (deliveries_among list.now)) }
     ensures want { IsOkUnless result Memory.Want }
 {
     let mut count: u64 = 0;
-    for heard in list {
-        count += hear(drill, heard)?;
+    for printed in list {
+        count += hear(drill, printed)?;
     }
     Ok(count)
 }
@@ -103,15 +135,16 @@ impl Play {
         part_lines(alloc, &mut self.drill, part, led)
     }
 
-    /// A text was printed, and this was told with it.
-    pub fn tell(&mut self, list: &[Heard], text: &[u8]) -> Result<(), Memory>
+    /// This was printed, and this is its text. `Spent` comes where as many deliveries were printed as can be counted.
+    pub fn tell(&mut self, list: &[Printed], text: &[u8]) -> Result<(), Memory>
         ensures ok { (k : Known) → Knows self.old k →
             OnOk result (Knows self.new (tell (deliveries_among list.now) text.now k)) }
-        ensures want { IsOkUnless result Memory.Want }
+        ensures cause { (k : Known) → Knows self.old k → IfErr result (λ e. SpentOnlyWhere e
+            (2 ^ 64 - 1) (2 ^ 64 ≤ k.delivered + length (deliveries_among list.now))) }
     {
         let count = hear_each(&mut self.drill, list)?;
         let Some(delivered) = self.delivered.checked_add(count) else {
-            return Err(Memory::Want);
+            return Err(Memory::Spent { number: u64::MAX });
         };
         self.digest.update(text);
         self.delivered = delivered;

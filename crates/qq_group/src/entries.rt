@@ -32,10 +32,8 @@ fn copy_entries<Q: Queue, L: LogView>(
     if first == 0 || server.state().last.0 < last {
         return Ok(None);
     }
-    match copy_behind(alloc, server.log(), first - 1, last) {
-        Ok(copied) => Ok(Some(Entries::from_vec(copied))),
-        Err(cause) => Err(cause),
-    }
+    let copied = copy_behind(alloc, server.log(), first - 1, last)?;
+    Ok(Some(Entries::from_vec(copied)))
 }
 
 impl<Q: Queue, L: LogView> Group<Q, L> {

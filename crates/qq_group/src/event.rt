@@ -108,10 +108,10 @@ impl<Q: Queue, L: LogView> Group<Q, L> {
             Event::Flush { node } => self.flush(alloc, node),
             Event::Deliver { place } => self.deliver(alloc, place),
             Event::Lose { place } => Ok(Shown::nothing(alloc, self.lose(place))),
-            Event::Copy { place } => match self.copy(alloc, place) {
-                Ok(outcome) => Ok(Shown::nothing(alloc, outcome)),
-                Err(cause) => Err(cause),
-            },
+            Event::Copy { place } => {
+                let outcome = self.copy(alloc, place)?;
+                Ok(Shown::nothing(alloc, outcome))
+            }
             Event::Notice { node, op } => self.notice(alloc, node, op),
             Event::Crash { node } => Ok(Shown::nothing(alloc, self.crash(node))),
         }

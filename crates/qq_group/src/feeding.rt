@@ -48,9 +48,7 @@ fn publish<Q: Queue, L: LogView>(
 {
     let state = server.state();
     let end = state.commit.0.min(state.last.0);
-    if let Err(cause) = extend_audit(alloc, audit, server.log(), end) {
-        return Err(cause);
-    }
+    extend_audit(alloc, audit, server.log(), end)?;
     send_all(bag, server)
 }
 
@@ -113,14 +111,9 @@ fn feed_server<Q: Queue, L: LogView>(
         ⊎ SpentOnlyWhere e BAG_LIMIT (BAG_LIMIT < length bag.old
         + length (sent_on input (server_of L.log server.old.raft)))) }
 {
-    let outcome = match act(alloc, server, input) {
-        Ok(outcome) => outcome,
-        Err(cause) => return Err(cause),
-    };
-    match settle(alloc, server, bag, audit) {
-        Ok(rows) => Ok(Shown { outcome, rows }),
-        Err(cause) => Err(cause),
-    }
+    let outcome = act(alloc, server, input)?;
+    let rows = settle(alloc, server, bag, audit)?;
+    Ok(Shown { outcome, rows })
 }
 
 impl<Q: Queue, L: LogView> Seat<Q, L> {
@@ -190,10 +183,8 @@ impl<Q: Queue, L: LogView> Group<Q, L> {
         let Some(seat) = self.seats.get_mut(node.0 as usize) else {
             unreachable!()
         };
-        match seat.feed(alloc, input, &mut self.bag, &mut self.audit) {
-            Ok(shown) => Ok(shown),
-            Err(cause) => Err(cause),
-        }
+        let shown = seat.feed(alloc, input, &mut self.bag, &mut self.audit)?;
+        Ok(shown)
     }
 
     /// An input reaches a member's server, if it is up. What it sends goes into the bag, and what it knows to
@@ -232,9 +223,7 @@ impl<Q: Queue, L: LogView> Group<Q, L> {
                 rows: Vec::new(alloc),
             });
         }
-        match self.feed_seat(alloc, node, input) {
-            Ok(shown) => Ok(shown),
-            Err(cause) => Err(cause),
-        }
+        let shown = self.feed_seat(alloc, node, input)?;
+        Ok(shown)
     }
 }

@@ -90,9 +90,7 @@ pub(crate) fn send_all<Q: Queue, L: LogView>(
         (BAG_LIMIT < length bag.old + length (server_of L.log server.old.raft).out)) }
 {
     'messages: while let Some(rpc) = server.next_rpc() {
-        if let Err(cause) = bag.put(rpc) {
-            return Err(cause);
-        }
+        bag.put(rpc)?;
     }
     Ok(())
 }

@@ -88,13 +88,9 @@ impl<Q: Queue, L: LogView> Seat<Q, L> {
             unreachable!()
         };
         let count = server.waiting();
-        match put_back(server, &mut self.returned) {
-            Ok(()) => {
-                self.handed = self.handed.saturating_add(count as u64);
-                Ok(server.take_ops(alloc))
-            }
-            Err(cause) => Err(cause),
-        }
+        put_back(server, &mut self.returned)?;
+        self.handed = self.handed.saturating_add(count as u64);
+        Ok(server.take_ops(alloc))
     }
 }
 

@@ -48,14 +48,14 @@ pub(crate) fn act<Q: Queue, L: LogView>(
     ensures cause { IfErr result (IsActCaused Q.stands Q.step Q.passes_end L.log input server.old) }
 {
     match input {
-        Input::Tick => match server.tick(alloc) {
-            Ok(()) => Ok(Outcome::Done),
-            Err(cause) => Err(cause),
-        },
-        Input::Receive(rpc) => match server.receive(alloc, rpc) {
-            Ok(()) => Ok(Outcome::Done),
-            Err(cause) => Err(cause),
-        },
+        Input::Tick => {
+            server.tick(alloc)?;
+            Ok(Outcome::Done)
+        }
+        Input::Receive(rpc) => {
+            server.receive(alloc, rpc)?;
+            Ok(Outcome::Done)
+        }
         Input::Submit { time, command } => match server.submit(alloc, time, command) {
             Ok(_) => Ok(Outcome::Done),
             Err(SubmitFault::NotLeader { hint }) => Ok(Outcome::NotLeader { hint }),
@@ -66,13 +66,13 @@ pub(crate) fn act<Q: Queue, L: LogView>(
             Err(SubmitFault::NotLeader { hint }) => Ok(Outcome::NotLeader { hint }),
             Err(SubmitFault::Memory(cause)) => Err(cause),
         },
-        Input::Flush => match server.flush(alloc) {
-            Ok(()) => Ok(Outcome::Done),
-            Err(cause) => Err(cause),
-        },
-        Input::Notice { op } => match server.notice(alloc, op) {
-            Ok(()) => Ok(Outcome::Done),
-            Err(cause) => Err(cause),
-        },
+        Input::Flush => {
+            server.flush(alloc)?;
+            Ok(Outcome::Done)
+        }
+        Input::Notice { op } => {
+            server.notice(alloc, op)?;
+            Ok(Outcome::Done)
+        }
     }
 }

@@ -22,10 +22,8 @@ fn append_some<D: NodeDisk>(wal: &mut Wal<D>, alloc: Global) -> Result<bool, Wal
     ensures cause { IfErr result (IsWriteCaused D.facts.faults wal.old wal.new) }
 {
     encodings_have_lengths();
-    match wal.append_batch(alloc) {
-        Ok(count) => Ok(count > 0),
-        Err(fault) => Err(fault),
-    }
+    let count = wal.append_batch(alloc)?;
+    Ok(count > 0)
 }
 
 /// Appends all that was gathered.

@@ -34,8 +34,6 @@ pub fn crash_log<Y: Yard>(
         Stands Y.Disk.facts lot parts false left) }
     ensures cause { HasCause IsYardCaused (Y.faults yard.old) (Y.faults yard.new) result }
 {
-    match yard.crash(alloc, log.into_disk(), image) {
-        Ok(disk) => Ok(NodeLog::Closed(disk)),
-        Err(fault) => Err(fault),
-    }
+    let disk = yard.crash(alloc, log.into_disk(), image)?;
+    Ok(NodeLog::Closed(disk))
 }

@@ -50,13 +50,9 @@ fn append_open<D: NodeDisk>(wal: &mut Wal<D>, alloc: Global, ops: Vec<Op>) -> Re
     ensures shown { IsTrue (D.facts.tells wal.old.disk) → IfErr result (λ memory.
         IsLongOn memory ops.items (now (D.facts.past wal.old.disk))) }
 {
-    if let Err(memory) = gather_all(wal, ops) {
-        return Err(memory);
-    }
-    match write_log(wal, alloc) {
-        Ok(more) => Ok(more),
-        Err(memory) => Err(memory),
-    }
+    gather_all(wal, ops)?;
+    let more = write_log(wal, alloc)?;
+    Ok(more)
 }
 
 fn sync_open<D: NodeDisk>(wal: &mut Wal<D>, alloc: Global) -> Result<SyncOutcome, Memory>
@@ -76,10 +72,8 @@ fn sync_open<D: NodeDisk>(wal: &mut Wal<D>, alloc: Global) -> Result<SyncOutcome
     ensures shown { IsTrue (D.facts.tells wal.old.disk) → IfErr result (λ memory.
         IsLastOn memory (now (D.facts.past wal.old.disk))) }
 {
-    match sync_log(wal, alloc) {
-        Ok(outcome) => Ok(outcome),
-        Err(memory) => Err(memory),
-    }
+    let outcome = sync_log(wal, alloc)?;
+    Ok(outcome)
 }
 
 impl<D: NodeDisk> NodeLog<D> {

@@ -82,10 +82,7 @@ pub fn recover_log<D: NodeDisk>(
     ensures cause { IfErr result (λ e. IsRecoverCaused (D.facts.faults disk)
         (D.facts.faults e.1) e.0) }
 {
-    let mut recovered = match recover(disk, alloc, queues, log_bytes) {
-        Ok(recovered) => recovered,
-        Err(refusal) => return Err(refusal),
-    };
+    let mut recovered = recover(disk, alloc, queues, log_bytes)?;
     match take_lanes(&mut recovered, alloc, queues) {
         Ok(lanes) => Ok(Found {
             wal: recovered.into_wal(),

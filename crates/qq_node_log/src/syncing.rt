@@ -85,9 +85,10 @@ pub(crate) fn sync_log<D: NodeDisk>(wal: &mut Wal<D>, alloc: Global) -> Result<S
         Err(WalFault::Stopped) => unreachable!(),
         Err(WalFault::TooLarge) => unreachable!(),
     }
-    match begin_next(wal, alloc, full) {
-        Ok(true) => Ok(SyncOutcome::Whole),
-        Ok(false) => Ok(SyncOutcome::NoFile),
-        Err(memory) => Err(memory),
+    let begun = begin_next(wal, alloc, full)?;
+    if begun {
+        Ok(SyncOutcome::Whole)
+    } else {
+        Ok(SyncOutcome::NoFile)
     }
 }

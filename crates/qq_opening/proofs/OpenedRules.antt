@@ -1,11 +1,10 @@
 -- One more node is opened, over logs that support an audit and are what was read: what the cluster is then.
+use Rattle.qq_cluster_model.specs.declared.printed.Printed.TheVariants.{Stopped}
 use Rattle.qq_cluster_model.specs.Outcome.{Outcome}
-use Rattle.qq_cluster.proofs.Outcomes.{line-outcome}
-use Rattle.qq_cluster.specs.Showing.{with_line}
+use Rattle.qq_cluster.specs.Showing.{with_printed}
 use Rattle.std.proofs.Common.{◌≡◌, ◌<◌, ◌+◌, ◌-◌, ℕ, zero, suc, Bool, true, false, not, ◌&&◌, ◌||◌, List, [], ◌∷◌, ◌++◌, Option, Some, None, length, refl, sym, ap, ◌∙◌, subst, arith}
-use Rattle.std.specs.Fmt.{decimal}
 use Rattle.std.specs.Global.{Vec}
-use Rattle.std.specs.Prelude.{codes, is_some, slice_get, take}
+use Rattle.std.specs.Prelude.{is_some, slice_get, take}
 use Rattle.std.specs.List.{range_with_len}
 use Rattle.qq_base.proofs.Puts.{put-other, put-same}
 use Rattle.qq_base.specs.Fronts.{put}
@@ -215,7 +214,7 @@ module _ {D : Type 0} {facts : DiskFacts D} (rows : List QueueRow) (old : Held D
       (marked : NodeTurns (λ (y z : Node D). z ≡ record y { up = false; empty = true }) at left.nodes.items
       last.nodes.items) (same : last ≡ record left { nodes = last.nodes }) (own : AreLogsOf rows logs)
       (are : AreReadLogs rows (range_with_len 1 (at + 1)) (put (at + 1) None o.lanes) logs) (later : Outcome)
-      (says : later ≡ with_line (codes "node " ++ decimal node.0 ++ codes " stopped\n") middle) where
+      (says : later ≡ with_printed (Stopped node.0 ∷ []) middle) where
     abbrev k : ℕ
     k = node.0
 
@@ -308,7 +307,7 @@ module _ {D : Type 0} {facts : DiskFacts D} (rows : List QueueRow) (old : Held D
         (same-disk node held left recover_faults.Disk at-node none setup c r st down)
         (λ all. IsRestart setup k c all × (all ≡ Fails k ∷ [])) middle later
         (λ failed. fails.cause) (fails-restart setup k c down, refl) z-stands
-        (says ∙ line-outcome (codes "node " ++ decimal k ++ codes " stopped\n") middle)
+        says
         (λ told linked. failed-traced setup c k (facts.past (disk_in fails.own)) (facts.past fails.left) linked.promised
         (always node held left recover_faults.Disk at-node none setup c r st down told linked).1.0)
 

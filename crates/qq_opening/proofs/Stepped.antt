@@ -1,10 +1,9 @@
 -- A node that is down was recovered, or not, as a step leaves it.
+use Rattle.qq_cluster_model.specs.declared.printed.Printed.TheVariants.{Stopped}
 use Rattle.qq_cluster_model.specs.Outcome.{Outcome}
-use Rattle.qq_cluster.specs.Showing.{with_line}
-use Rattle.std.proofs.Common.{◌≡◌, ◌++◌, ◌-◌, ℕ, Bool, List, Option, refl, ap, subst, inl, inr}
+use Rattle.qq_cluster.specs.Showing.{with_printed}
+use Rattle.std.proofs.Common.{◌∷◌, [], ◌≡◌, ◌++◌, ◌-◌, ℕ, Bool, List, Option, refl, ap, subst, inl, inr}
 use Rattle.std.specs.Global.{Vec}
-use Rattle.std.specs.Prelude.{codes}
-use Rattle.std.specs.Fmt.{decimal}
 use Rattle.qq_base.specs.declared.ids.NodeId.{NodeId}
 use Rattle.qq_base.specs.declared.memory.Memory.{Memory}
 use Rattle.qq_base.specs.declared.memory.Memory.TheVariants.{Want}
@@ -56,7 +55,7 @@ module _ {D : Type 0} {facts : DiskFacts D} (node : NodeId) (opens : Bool) (old 
 
   pub steps-failed : (cause : RecoverFault) (before later : Outcome)
       → IsNotFound facts node old nodes cause → cause ≡ recover_faults.Disk
-      → later ≡ with_line (codes "node " ++ decimal node.0 ++ codes " stopped\n") before
+      → later ≡ with_printed (Stopped node.0 ∷ []) before
       → Steps facts node opens old (record old { nodes = nodes }) before later
   steps-failed cause before later turn is says =
       inr (none recover_faults.Disk (subst (IsNotFound facts node old nodes) is turn), says)

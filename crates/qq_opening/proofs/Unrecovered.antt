@@ -1,11 +1,10 @@
 -- A node that is down isn't recovered: its disk has failed, or the restart is given up.
+use Rattle.qq_cluster_model.specs.declared.printed.Printed.TheVariants.{Stopped}
 use Rattle.qq_cluster_model.specs.Outcome.{Outcome}
-use Rattle.qq_cluster.proofs.Outcomes.{line-outcome}
-use Rattle.qq_cluster.specs.Showing.{with_line}
+use Rattle.qq_cluster.specs.Showing.{with_printed}
 use Rattle.std.proofs.Common.{◌≡◌, ◌<◌, ◌+◌, ◌-◌, ℕ, false, List, [], ◌∷◌, ◌++◌, Some, None, length, refl, sym, ap, ◌∙◌, subst, inr}
-use Rattle.std.specs.Fmt.{decimal}
 use Rattle.std.specs.Global.{Vec}
-use Rattle.std.specs.Prelude.{IsTrue, codes}
+use Rattle.std.specs.Prelude.{IsTrue}
 use Rattle.std.proofs.lemmas.Bool.{false≢true}
 use Rattle.qq_base.proofs.Puts.{put-same}
 use Rattle.qq_base.specs.declared.ids.NodeId.{NodeId}
@@ -210,7 +209,7 @@ module _ {D : Type 0} {facts : DiskFacts D} (node : NodeId) (old left : Held D) 
           (st.quiet i lt calm))
 
       pub failed-serves : fault ≡ recover_faults.Disk → (before after : Outcome)
-          → after ≡ with_line (codes "node " ++ decimal k ++ codes " stopped\n") before
+          → after ≡ with_printed (Stopped k ∷ []) before
           → Serves setup c (IsRestart setup k c) (Stands facts setup left) (seen facts old)
           (seen facts left) before after
       failed-serves is before after says =
@@ -219,7 +218,7 @@ module _ {D : Type 0} {facts : DiskFacts D} (node : NodeId) (old left : Held D) 
           after
           (λ failed. subst (IsRecoverCaused (facts.faults (disk_in fails.own)) (facts.faults fails.left)) is
           fails.cause) (fails-restart setup k c down) failed-stands
-          (says ∙ line-outcome (codes "node " ++ decimal k ++ codes " stopped\n") before)
+          says
           (λ told linked. failed-traced setup c k
           (facts.past (disk_in fails.own)) (facts.past fails.left) linked.promised (always told linked).1.0)
 
@@ -241,7 +240,7 @@ module _ {D : Type 0} {facts : DiskFacts D} (node : NodeId) (old left : Held D) 
 
         -- the disk has failed, and that is said
         pub not-recovered : fault ≡ recover_faults.Disk → (after : Outcome)
-            → after ≡ with_line (codes "node " ++ decimal k ++ codes " stopped\n") before
+            → after ≡ with_printed (Stopped k ∷ []) before
             → Served facts (λ setup. IsRestart setup k) old left before after
         not-recovered is after says = record {
           serves = λ setup c r st. failed-serves setup c r st (down setup c st) is before after says;

@@ -1,10 +1,10 @@
 -- What a restart does to a node's queues and its log, step by step.
+use Rattle.qq_cluster_model.specs.declared.printed.Printed.TheVariants.{Stopped}
 use Rattle.qq_cluster_model.specs.Outcome.{Outcome}
-use Rattle.qq_cluster.specs.Showing.{with_line}
-use Rattle.std.specs.Prelude.{◌≡◌, ◌⊎◌, ◌<◌, ◌-◌, ◌++◌, ℕ, Bool, true, false, List, [], ◌∷◌, Option, Some, None, All, IsTrue, IfSome, codes, is_some, length, slice_get, slice_set}
+use Rattle.qq_cluster.specs.Showing.{with_printed}
+use Rattle.std.specs.Prelude.{◌≡◌, ◌⊎◌, ◌<◌, ◌-◌, ◌++◌, ℕ, Bool, true, false, List, [], ◌∷◌, Option, Some, None, All, IsTrue, IfSome, is_some, length, slice_get, slice_set}
 use Rattle.std.specs.Global.{Vec}
 use Rattle.std.specs.List.{AllByRecursion}
-use Rattle.std.specs.Fmt.{decimal}
 use Rattle.qq_base.specs.declared.ids.NodeId.{NodeId}
 use Rattle.qq_base.specs.declared.ids.QueueId.{QueueId}
 use Rattle.qq_base.specs.declared.memory.Memory.TheVariants.{Want}
@@ -354,7 +354,7 @@ abbrev pub Steps : {D : Type 0} → DiskFacts D → NodeId → (opens : Bool) �
     → (before later : Outcome) → Type 0
 Steps facts node opens old new before later =
     (StepsUp facts node opens old new × (later ≡ before)) ⊎ (FindsNone facts node old new recover_faults.Disk
-    × (later ≡ with_line (codes "node " ++ decimal node.0 ++ codes " stopped\n") before))
+    × (later ≡ with_printed (Stopped node.0 ∷ []) before))
 
 abbrev pub MayNotStep : {D : Type 0} → DiskFacts D → NodeId → (opens : Bool)
     → (old new : Held D) → NodeFault → Type 0

@@ -1,6 +1,6 @@
 -- A fetch of the code is a fetch of the definition.
 use Rattle.std.proofs.Common.{◌≡◌, ℕ, zero, suc, ◌+◌, ◌≤◌, Bool, true, false, cond, List, [], ◌∷◌, ◌++◌, drop, map, filter, length, take, Option, Some, None, refl, sym, ap, ◌∙◌, subst, append_assoc, arith}
-use Rattle.std.specs.Prelude.{slice_get}
+use Rattle.std.specs.Prelude.{◌<◌, is_none, slice_get}
 use Rattle.std.specs.List.{flat_map}
 use Rattle.std.specs.Option.{option_map}
 use Rattle.std.proofs.lemmas.Bool.{cond-false, cond-true}
@@ -33,7 +33,7 @@ use Rattle.qq_raft_model.specs.State.{Server as Raft, last}
 use Rattle.qq_queue.specs.StandsFor.{StandsFor}
 use Rattle.qq_queue.specs.declared.machine_queue.MachineQueue.{MachineQueue}
 use Rattle.qq_group.specs.Group.{IsReached, Represents, server_at}
-use Rattle.qq_group.specs.Reads.{leader_of, machine_at}
+use Rattle.qq_group.specs.Reads.{leader_of, machine_at, machine_of}
 use Rattle.qq_group_laws.specs.Audited.{IsAuditedBy}
 use Rattle.qq_session.specs.Clients.{Clients}
 use Rattle.qq_cluster_model.specs.Delivering.{applied_by, come_all, fetch, hand_all, is_consumer_of}
@@ -126,6 +126,12 @@ goes-on m session all k g before after is grown =
     ∙ append_assoc before (fetched_by m session g) (fetched_all m session (drop (k + 1) all))
     ∙ ap (λ (n : ℕ). before ++ (fetched_by m session g ++ fetched_all m session (drop n all))) one
     ∙ ap (λ (l : List Effect). before ++ l) (sym (next-fetched m session all k g is))
+
+-- there is one at each place
+pub one-there : (all : List Received) (k : ℕ) → k < length all → None ≡ option_map gap (slice_get all k) → ⊥
+one-there [] k there none = absurd (omega (arith, there))
+one-there (r ∷ all) zero there none = let e : ◌≡◌ {A = Option Gap} None (Some (gap r)) = none in cc
+one-there (r ∷ all) (suc k) there none = one-there all k (omega (arith, there)) none
 
 pub none-left : (m : Parts) (session : SessionId) (all : List Received)
     → fetched_all m session (drop (length all) all) ≡ []
@@ -246,6 +252,23 @@ pub record HasMachine (o : Option Member) (m : MachineQueue) : Type 0 where
 pub machine-of : (o : Option Member) (m : MachineQueue) → Some m ≡ machine_at o → HasMachine o m
 machine-of None m is = absurd (let e : ◌≡◌ {A = Option MachineQueue} (Some m) None = is in cc)
 machine-of (Some s) m is = (let own : s.machine ≡ m = cc in record { member = s; up = refl; own = own })
+
+-- who leads, and whose machine it is
+pub record IsLed (group : Members) (m : MachineQueue) : Type 0 where
+  pub node : NodeId
+  pub leads : Some node ≡ leader_of own_log group
+  pub machine : Some m ≡ machine_at (server_at node.0 group)
+
+pub led-by : (group : Members) (m : MachineQueue) → Some m ≡ machine_of (leader_of own_log group) group → IsLed group m
+led-by group m is = by (leader_of own_log group) refl is
+  where
+    by : (o : Option NodeId) → o ≡ leader_of own_log group → Some m ≡ machine_of o group → IsLed group m
+    by None same is = absurd (let e : ◌≡◌ {A = Option MachineQueue} (Some m) None = is in cc)
+    by (Some node) same is = record { node = node; leads = same; machine = is }
+
+pub nobody-leads : (o : Option NodeId) → true ≡ is_none o → None ≡ o
+nobody-leads None is = refl
+nobody-leads (Some node) is = absurd (let e : ◌≡◌ {A = Bool} true false = is in cc)
 
 pub silent-does : (sessions : Standings) (d : ClusterQueue) (q : Queue) (session : ℕ) (before : List Shown)
     → Stands sessions d q → None ≡ leader_of own_log d.group

@@ -19,6 +19,7 @@ mod Known
 mod Hearing
 mod Finding
 mod Ranges
+mod FromOne
 mod Muting
 mod Reading
 mod Beginning

@@ -16,7 +16,7 @@ use Rattle.qq_queue.specs.Range.{HasBytes, IsClient}
 
 -- ---- a client's commands
 
-client-session : (number : ℕ) → 0 < number → number < 2 ^ 64 → IsSession (client number)
+pub client-session : (number : ℕ) → 0 < number → number < 2 ^ 64 → IsSession (client number)
 client-session number positive within = record {
   class = (omega arith, omega arith);
   client = λ is. refl;

@@ -6,6 +6,7 @@ pub mod Tally
 pub mod Members
 pub mod Telling
 pub mod Waiting
+pub mod Numbered
 pub mod ClusterQueue
 pub mod Events
 pub mod Judging

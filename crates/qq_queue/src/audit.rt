@@ -39,19 +39,14 @@ pub(crate) fn next_row(
     if !fine {
         return Err(Memory::Want);
     }
-    let kept = match entry.copy(alloc) {
-        Ok(kept) => kept,
-        Err(cause) => return Err(cause),
-    };
-    match machine.apply(alloc, Index(index), entry) {
-        Err(cause) => Err(cause),
-        Ok((fresh, answer, _)) => Ok(AuditRow {
-            index: Index(index),
-            entry: kept,
-            fresh,
-            answer,
-        }),
-    }
+    let kept = entry.copy(alloc)?;
+    let (fresh, answer, _) = machine.apply(alloc, Index(index), entry)?;
+    Ok(AuditRow {
+        index: Index(index),
+        entry: kept,
+        fresh,
+        answer,
+    })
 }
 
 // Adds the rows of entries that a machine applies one after the other.
@@ -71,17 +66,9 @@ fn push_rows(
 {
     let mut index: u64 = 0;
     'entries: for entry in entries {
-        let Some(next) = index.checked_add(1) else {
-            return Err(Memory::Want);
-        };
-        index = next;
-        let row = match next_row(alloc, machine, index, entry) {
-            Ok(row) => row,
-            Err(cause) => return Err(cause),
-        };
-        if let Err(cause) = row_text(alloc, &row, out) {
-            return Err(cause);
-        }
+        index += 1;
+        let row = next_row(alloc, machine, index, entry)?;
+        row_text(alloc, &row, out)?;
     }
     Ok(())
 }
@@ -105,12 +92,8 @@ impl ClusterQueue {
     {
         let entries = self.group.audit();
         let count = entries.len() as u64;
-        if let Err(cause) = audit_head_text(alloc, &self.name, Index(0), count, out) {
-            return Err(cause);
-        }
-        if let Err(cause) = push_rows(alloc, machine, entries, out) {
-            return Err(cause);
-        }
+        audit_head_text(alloc, &self.name, Index(0), count, out)?;
+        push_rows(alloc, machine, entries, out)?;
         Ok(())
     }
 
@@ -124,10 +107,7 @@ impl ClusterQueue {
         ensures cause { IfErr result (λ e. SpentOnlyWhere e NUMBER_END
             (stays_within (empty_queue self.now.args) self.now.group.audit.items ≡ false)) }
     {
-        let args = match self.args.copy(alloc) {
-            Ok(args) => args,
-            Err(cause) => return Err(cause),
-        };
+        let args = self.args.copy(alloc)?;
         let mut machine = MachineQueue::new(alloc, args);
         let told = self.push_audit(alloc, &mut machine, out);
         drop(machine);

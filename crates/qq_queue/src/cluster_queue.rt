@@ -1,11 +1,11 @@
 //! One queue of a cluster.
+use crate::client_consumers::ClientConsumers;
 use crate::counts::Counts;
 use crate::moves::Members;
 use crate::publishers::Publishers;
 use crate::untold::Untold;
 use crate::votes::Votes;
 use qq_base::Text;
-use qq_consuming::Consumers;
 use qq_entry::QueueArgs;
 use qq_taker::Seats;
 
@@ -18,7 +18,7 @@ pub struct ClusterQueue {
     pub(crate) args: QueueArgs,
     pub(crate) publishers: Publishers,
     /// Those that the clients know, in the order of their subscriptions.
-    pub(crate) consumers: Consumers,
+    pub(crate) consumers: ClientConsumers,
     /// Those that have a taker.
     pub(crate) seats: Seats,
     /// What was handed out from the first delivery on that waits for its taker's verdict.

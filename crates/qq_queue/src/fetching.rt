@@ -8,11 +8,12 @@ ghost use Rattle.qq_queue.specs.Fetching.{fetched_all, fetched_by};
 ghost use Rattle.qq_queue.specs.Members.{AreSound};
 ghost use Rattle.qq_queue.specs.Sessions.{standings};
 
+use crate::client_consumers::ClientConsumers;
 use crate::cluster_queue::ClusterQueue;
 use crate::machine_queue::MachineQueue;
 use crate::sessions::Sessions;
 use qq_base::{ConsumerId, Memory, SessionId};
-use qq_consuming::{Consumers, Gap};
+use qq_consuming::Gap;
 use qq_entry::{Delivery, Effect};
 use qq_group::what_is_committed_stays_in_the_audit;
 use qq_log::Log;
@@ -56,10 +57,7 @@ fn fetch_one(
     if !own {
         return Ok(());
     }
-    let found = match machine.fetch(alloc, gap.consumer, gap.missing) {
-        Ok(found) => found,
-        Err(cause) => return Err(cause),
-    };
+    let found = machine.fetch(alloc, gap.consumer, gap.missing)?;
     push_all(gap.consumer, found, effects)?;
     Ok(())
 }
@@ -69,7 +67,7 @@ fn fetch_all(
     alloc: Global,
     machine: &Machine,
     session: SessionId,
-    consumers: &Consumers,
+    consumers: &ClientConsumers,
 ) -> Result<Vec<Effect>, Memory>
     ensures ok { IfOk result (λ effects.
         effects.items ≡ fetched_all machine.now session consumers.now) }
@@ -78,9 +76,8 @@ fn fetch_all(
     let mut effects = Vec::new(alloc);
     let count = consumers.count();
     'places: for place in 0..count {
-        // There is one at each place below the count.
         let Some(gap) = consumers.gap(place) else {
-            return Err(Memory::Want);
+            unreachable!()
         };
         fetch_one(alloc, machine, session, gap, &mut effects)?;
     }
@@ -111,12 +108,8 @@ impl ClusterQueue {
         what_a_group_committed_stays();
         parts_tell_the_queue();
         deliveries_end();
-        let Some(leader) = self.group.leader() else {
+        let Some(queue) = self.group.leading_machine() else {
             return Ok(());
-        };
-        // Who leads is up.
-        let Some(queue) = self.group.machine(leader) else {
-            return Err(Memory::Want);
         };
         let machine = queue.machine();
         let id = SessionId::client(session);

@@ -65,9 +65,7 @@ impl ClusterQueue {
     {
         let count = self.waiting(node);
         'ops: for taken in 0..count {
-            if let Err(cause) = self.take_op(alloc, node, ops) {
-                return Err(cause);
-            }
+            self.take_op(alloc, node, ops)?;
         }
         Ok(())
     }

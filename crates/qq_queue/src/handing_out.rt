@@ -8,14 +8,15 @@ ghost use Rattle.qq_cluster_model.specs.Taking.{delivered, told_of, told_then, w
 ghost use Rattle.qq_session.specs.declared.shown.Shown.TheVariants.{Delivered};
 ghost use Rattle.qq_taker.specs.declared.handed.Handed.{Handed};
 ghost use Rattle.qq_queue.specs.Members.{effects_in};
+ghost use Rattle.qq_queue.specs.Numbered.{AreNumbered};
 ghost use Rattle.qq_queue.specs.Sessions.{clients_of, no_numbers, standings};
 ghost use Rattle.qq_queue.specs.Telling.{HasHanded};
 
+use crate::client_consumers::ClientConsumers;
 use crate::cluster_queue::ClusterQueue;
 use crate::sessions::Sessions;
 use crate::untold::Untold;
 use qq_base::{ConsumerId, Duplicate, Memory};
-use qq_consuming::Consumers;
 use qq_entry::{Delivery, Effect};
 use qq_raft::AppliedRow;
 use qq_session::Shown;
@@ -25,7 +26,7 @@ use std::alloc::Global;
 // A delivery comes to a consumer, and goes behind what is handed out then.
 fn come(
     alloc: Global,
-    consumers: &mut Consumers,
+    consumers: &mut ClientConsumers,
     consumer: ConsumerId,
     delivery: &Delivery,
     handed: &mut Vec<Delivery>,
@@ -33,12 +34,11 @@ fn come(
     ensures ok { OnOk result (consumers.new ≡ come consumer delivery.now consumers.old) }
     ensures taken { OnOk result
         (handed.new.items ≡ handed.old.items ++ taken consumer delivery.now consumers.old) }
+    ensures numbered { OnOk result
+        (AreNumbered consumer (taken consumer delivery.now consumers.old)) }
     ensures want { IsOkUnless result Memory.Want }
 {
-    let own = match delivery.copy(alloc) {
-        Ok(own) => own,
-        Err(cause) => return Err(cause),
-    };
+    let own = delivery.copy(alloc)?;
     match consumers.come(consumer, own, handed) {
         Ok(()) => Ok(()),
         // No queue gives an id at the end of numbers.
@@ -50,7 +50,7 @@ fn come(
 fn deliver_to(
     alloc: Global,
     sessions: &Sessions,
-    consumers: &mut Consumers,
+    consumers: &mut ClientConsumers,
     consumer: ConsumerId,
     delivery: &Delivery,
     untold: &mut Untold,
@@ -68,12 +68,8 @@ fn deliver_to(
         return Ok(());
     }
     let mut handed = Vec::new(alloc);
-    if let Err(cause) = come(alloc, consumers, consumer, delivery, &mut handed) {
-        return Err(cause);
-    }
-    if let Err(cause) = untold.push_all(consumer, handed) {
-        return Err(cause);
-    }
+    come(alloc, consumers, consumer, delivery, &mut handed)?;
+    untold.push_all(consumer, handed)?;
     Ok(())
 }
 
@@ -81,7 +77,7 @@ fn deliver_to(
 fn deliver(
     alloc: Global,
     sessions: &Sessions,
-    consumers: &mut Consumers,
+    consumers: &mut ClientConsumers,
     effect: &Effect,
     untold: &mut Untold,
 ) -> Result<(), Memory>
@@ -104,7 +100,7 @@ fn deliver(
 fn deliver_each(
     alloc: Global,
     sessions: &Sessions,
-    consumers: &mut Consumers,
+    consumers: &mut ClientConsumers,
     effects: &[Effect],
     untold: &mut Untold,
 ) -> Result<(), Memory>
@@ -115,9 +111,7 @@ fn deliver_each(
     ensures want { IsOkUnless result Memory.Want }
 {
     'effects: for effect in effects {
-        if let Err(cause) = deliver(alloc, sessions, consumers, effect, untold) {
-            return Err(cause);
-        }
+        deliver(alloc, sessions, consumers, effect, untold)?;
     }
     Ok(())
 }
@@ -126,7 +120,7 @@ fn deliver_each(
 pub fn deliver_rows(
     alloc: Global,
     sessions: &Sessions,
-    consumers: &mut Consumers,
+    consumers: &mut ClientConsumers,
     rows: &[AppliedRow],
     untold: &mut Untold,
 ) -> Result<(), Memory>
@@ -140,9 +134,7 @@ pub fn deliver_rows(
 {
     'rows: for applied in rows {
         let effects = applied.effects.as_slice();
-        if let Err(cause) = deliver_each(alloc, sessions, consumers, effects, untold) {
-            return Err(cause);
-        }
+        deliver_each(alloc, sessions, consumers, effects, untold)?;
     }
     Ok(())
 }

@@ -145,8 +145,7 @@ impl ClusterQueue {
         };
         let may = may_claim(first);
         if !may {
-            // A client's session, its consumers and their deliveries are numbered from 1.
-            return Err(Memory::Want);
+            unreachable!()
         }
         let ids = one_id(alloc, first.delivery.id)?;
         Ok(claim(first, ids, verdict))

@@ -82,10 +82,8 @@ impl Queue for MachineQueue {
         index: Index,
         entry: &Entry,
     ) -> Result<(bool, Answer, Effects), Memory> {
-        match self.machine.apply(alloc, index, entry) {
-            Err(cause) => Err(cause),
-            Ok((fresh, answer, effects)) => Ok((fresh, answer, Effects::from_vec(effects))),
-        }
+        let (fresh, answer, effects) = self.machine.apply(alloc, index, entry)?;
+        Ok((fresh, answer, Effects::from_vec(effects)))
     }
 
     fn low(&self) -> Index {

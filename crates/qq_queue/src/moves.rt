@@ -48,10 +48,8 @@ pub fn happen(alloc: Global, group: &mut Members, event: Event) -> Result<Vec<Ap
     what_is_applied_is_committed::<MachineQueue>();
     a_message_always_fits::<MachineQueue, Log>();
     events_reach_groups();
-    match group.step(alloc, event) {
-        Ok(shown) => Ok(shown.rows),
-        Err(cause) => Err(cause),
-    }
+    let shown = group.step(alloc, event)?;
+    Ok(shown.rows)
 }
 
 /// A client's command reaches a member at this time. After an error the member has crashed, and nothing else has
@@ -119,8 +117,6 @@ pub fn restart(
         Err(cause) => return Err(RestartFault::Memory(cause)),
     };
     let machine = MachineQueue::new(alloc, own);
-    if let Err(cause) = group.restart(alloc, node, machine, log) {
-        return Err(cause);
-    }
+    group.restart(alloc, node, machine, log)?;
     Ok(())
 }

@@ -11,6 +11,7 @@ ghost use Rattle.qq_queue.specs.Agreeing.{BeginsWith};
 ghost use Rattle.qq_queue.specs.ClusterQueue.{Opens};
 ghost use Rattle.qq_queue.specs.Members.{down_start, own_log, AreSound, OpensGroup};
 
+use crate::client_consumers::ClientConsumers;
 use crate::cluster_queue::ClusterQueue;
 use crate::counts::Counts;
 use crate::machine_queue::MachineQueue;
@@ -19,7 +20,6 @@ use crate::publishers::Publishers;
 use crate::untold::Untold;
 use crate::votes::Votes;
 use qq_base::{Memory, NodeId, Text};
-use qq_consuming::Consumers;
 use qq_entry::QueueArgs;
 use qq_group::{Group, GroupFault};
 use qq_log::Log;
@@ -82,7 +82,7 @@ impl ClusterQueue {
     {
         let group = down_group(alloc, &args, nodes)?;
         let publishers = Publishers::new(alloc, args.queue);
-        let consumers = Consumers::new(alloc);
+        let consumers = ClientConsumers::new(alloc);
         let seats = Seats::new(alloc);
         let untold = Untold::new(alloc);
         Ok(ClusterQueue {

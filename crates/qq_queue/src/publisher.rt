@@ -73,10 +73,7 @@ impl Publisher {
     {
         // The low mark of the stamp is below its number.
         let _ = self.numbers.low_mark();
-        let command = match self.numbers.hand(alloc, body) {
-            Ok(command) => command,
-            Err(fault) => return Err(fault),
-        };
+        let command = self.numbers.hand(alloc, body)?;
         Ok(command)
     }
 

@@ -6,7 +6,7 @@ ghost use Rattle.qq_cluster_model.specs.Queue.{leader, receiver_by};
 ghost use Rattle.qq_cluster_model.specs.Rules.{is_quiet_at, waits_noticed, waits_synced, waits_written};
 ghost use Rattle.qq_group.specs.Group.{server_at};
 ghost use Rattle.qq_group.specs.Reads.{IsIdle};
-ghost use Rattle.qq_raft_core.specs.Raft.{state_of};
+ghost use Rattle.qq_cluster_model.specs.Cluster.{member_state};
 ghost use Rattle.qq_queue.specs.ClusterQueue.{is_up_at, OfItsQueue};
 ghost use Rattle.qq_queue.specs.Members.{number_of, AreSound};
 
@@ -66,7 +66,7 @@ impl ClusterQueue {
         requires { AreSound self.now.group }
 
         ensures { OfItsQueue self.now (λ q.
-            result ≡ option_map state_of (q.group.seat node.0).server) }
+            result ≡ option_map member_state (q.group.seat node.0).server) }
     {
         self.group.member(node)
     }

@@ -14,11 +14,11 @@ ghost use Rattle.qq_queue.specs.Sessions.{numbers_of, subscribes};
 ghost use Rattle.qq_queue.specs.Members.{AreSound, Makes, number_of, own_log};
 ghost use Rattle.qq_queue.specs.Range.{HasBytes, MayStamp};
 
+use crate::client_consumers::ClientConsumers;
 use crate::cluster_queue::ClusterQueue;
 use crate::moves::submit;
 use crate::publishers::Publishers;
 use qq_base::{Memory, NodeId, SessionId};
-use qq_consuming::Consumers;
 use qq_entry::{Command, Unstamped};
 use qq_session::{HandFault, Shown};
 use std::alloc::Global;
@@ -35,10 +35,12 @@ fn subscribes(body: &Unstamped) -> bool
 fn learn(
     alloc: Global,
     publishers: &Publishers,
-    consumers: &mut Consumers,
+    consumers: &mut ClientConsumers,
     session: u64,
     body: &Unstamped,
 ) -> Result<(), Memory>
+    requires session { 0 < session }
+    requires range { MayStamp body.now }
     ensures ok { OnOk result (consumers.new ≡ (if may_hand (numbers_of publishers.now session)
         then know_by (client session) body.now consumers.old else consumers.old)) }
     ensures want { IsOkUnless result Memory.Want }
@@ -52,7 +54,7 @@ fn learn(
     if !room {
         return Ok(());
     }
-    consumers.know_by(alloc, SessionId::client(session), body)?;
+    consumers.know_by(alloc, session, body)?;
     Ok(())
 }
 

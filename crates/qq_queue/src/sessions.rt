@@ -85,9 +85,7 @@ impl Sessions {
         ensures err { OnErr result (standings self.new ≡ standings self.old) }
         ensures want { IsOkUnless result Memory.Want }
     {
-        if let Err(cause) = self.open(alloc, session) {
-            return Err(cause);
-        }
+        self.open(alloc, session)?;
         let Some(standing) = self.rows.get_mut(&session) else {
             unreachable!()
         };
@@ -103,9 +101,7 @@ impl Sessions {
         ensures err { OnErr result (standings self.new ≡ standings self.old) }
         ensures want { IsOkUnless result Memory.Want }
     {
-        if let Err(cause) = self.open(alloc, session) {
-            return Err(cause);
-        }
+        self.open(alloc, session)?;
         let Some(standing) = self.rows.get_mut(&session) else {
             unreachable!()
         };

@@ -85,9 +85,7 @@ impl ClusterQueue {
         ensures cause { IfErr result (IsRestartCaused own_log node.0 log self.old.group) }
     {
         let (op, _, vote) = log.start();
-        if let Err(cause) = restart(alloc, &mut self.group, node, &self.args, log) {
-            return Err(cause);
-        }
+        restart(alloc, &mut self.group, node, &self.args, log)?;
         self.synced.set(node, op);
         self.votes.set(node, vote);
         Ok(())

@@ -81,17 +81,9 @@ fn count_entries(
 {
     let mut index: u64 = 0;
     'entries: for entry in entries {
-        let Some(next) = index.checked_add(1) else {
-            return Err(Memory::Want);
-        };
-        index = next;
-        let row = match next_row(alloc, machine, index, entry) {
-            Ok(row) => row,
-            Err(cause) => return Err(cause),
-        };
-        if let Err(cause) = tally.add(&row) {
-            return Err(cause);
-        }
+        index += 1;
+        let row = next_row(alloc, machine, index, entry)?;
+        tally.add(&row)?;
     }
     Ok(())
 }
@@ -113,9 +105,7 @@ impl ClusterQueue {
             (stays_within (empty_queue self.now.args) self.now.group.audit.items ≡ false)) }
     {
         let entries = self.group.audit();
-        if let Err(cause) = count_entries(alloc, machine, entries, tally) {
-            return Err(cause);
-        }
+        count_entries(alloc, machine, entries, tally)?;
         Ok(())
     }
 
@@ -127,10 +117,7 @@ impl ClusterQueue {
         ensures cause { IfErr result (λ e. SpentOnlyWhere e NUMBER_END
             (stays_within (empty_queue self.now.args) self.now.group.audit.items ≡ false)) }
     {
-        let args = match self.args.copy(alloc) {
-            Ok(args) => args,
-            Err(cause) => return Err(cause),
-        };
+        let args = self.args.copy(alloc)?;
         let mut machine = MachineQueue::new(alloc, args);
         let told = self.count_audit(alloc, &mut machine, tally);
         drop(machine);

@@ -2,6 +2,7 @@
 ghost use Rattle.std.specs.Prelude.{◌≡◌, ◌∷◌, ◌++◌, [], false, length, map, option_to_list, slice_get, IfSome, IfNone, OnOk, OnErr, IsOkUnless};
 ghost use Rattle.std.specs.Option.{option_copied};
 ghost use Rattle.qq_cluster_model.specs.Taking.{has_taker, told_of, waiting_of};
+ghost use Rattle.qq_queue.specs.Numbered.{AreNumbered, IsNumbered};
 ghost use Rattle.qq_queue.specs.Waiting.{handed_to, is_plain};
 
 use qq_base::{ConsumerId, Memory};
@@ -19,11 +20,15 @@ pub struct Untold {
 
 impl Model for Untold {
     ghost use Rattle.std.specs.Prelude.{List};
+    ghost use Rattle.std.specs.List.{AllByRecursion};
     ghost use Rattle.qq_taker.specs.declared.handed.Handed.{Handed};
+    ghost use Rattle.qq_queue.specs.Numbered.{IsNumbered};
 
     ghost Value = { List Handed };
 
     ghost view = { λ u. u.rows.items };
+
+    ghost invariant = { λ u. AllByRecursion IsNumbered u.rows.items };
 }
 
 impl Untold {
@@ -45,7 +50,8 @@ impl Untold {
 
     /// The first one.
     pub fn first(&self) -> Option<&Handed>
-        ensures { option_copied result ≡ slice_get self.now 0 }
+        ensures value { option_copied result ≡ slice_get self.now 0 }
+        ensures numbered { IfSome result (λ first. IsNumbered first.now) }
     {
         self.rows.front()
     }
@@ -89,6 +95,8 @@ impl Untold {
         consumer: ConsumerId,
         deliveries: Vec<Delivery>,
     ) -> Result<(), Memory>
+        requires { AreNumbered consumer deliveries.items }
+
         ensures ok { OnOk result (self.new
             ≡ self.old ++ map (handed_to consumer) deliveries.items) }
         ensures want { IsOkUnless result Memory.Want }

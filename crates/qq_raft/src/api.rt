@@ -216,9 +216,7 @@ impl<Q: Queue, L: LogView> Server<Q, L> {
             IsCaused Q.step Q.passes_end (receive_raft rpc) (state_of L.log queue self.old) e) }
     {
         self.raft.receive(alloc, rpc)?;
-        if let Err(cause) = self.apply_committed(alloc) {
-            return Err(cause);
-        }
+        self.apply_committed(alloc)?;
         Ok(())
     }
 
@@ -231,9 +229,7 @@ impl<Q: Queue, L: LogView> Server<Q, L> {
             IsCaused Q.step Q.passes_end (notice_raft op) (state_of L.log queue self.old) e) }
     {
         self.raft.notice(alloc, op)?;
-        if let Err(cause) = self.apply_committed(alloc) {
-            return Err(cause);
-        }
+        self.apply_committed(alloc)?;
         Ok(())
     }
 

@@ -77,13 +77,9 @@ fn apply_entry<Q: Queue>(
     ensures cause { IfErr result (λ e. (queue : Q.Plain) → Q.stands queue machine.old →
         SpentOnlyWhere e NUMBER_END (Q.passes_end queue index entry.now)) }
 {
-    match machine.apply(alloc, index, entry) {
-        Err(cause) => Err(cause),
-        Ok(made) => {
-            keep_row(alloc, rows, index, entry, made, shown)?;
-            Ok(())
-        }
-    }
+    let made = machine.apply(alloc, index, entry)?;
+    keep_row(alloc, rows, index, entry, made, shown)?;
+    Ok(())
 }
 
 /// Whether a server shows the row of an entry.
@@ -115,16 +111,14 @@ impl<Q: Queue, L: LogView> Server<Q, L> {
             return Ok(());
         };
         let shown = shows(&self.raft, entry);
-        if let Err(cause) = apply_entry(
+        apply_entry(
             alloc,
             &mut self.machine,
             &mut self.rows,
             index,
             entry,
             shown,
-        ) {
-            return Err(cause);
-        }
+        )?;
         self.applied += 1;
         Ok(())
     }
@@ -143,9 +137,7 @@ impl<Q: Queue, L: LogView> Server<Q, L> {
         let state = self.raft.state();
         let end = state.commit.0.min(state.last.0);
         'entries: for _ in self.applied..end {
-            if let Err(cause) = self.apply_next(alloc) {
-                return Err(cause);
-            }
+            self.apply_next(alloc)?;
         }
         Ok(())
     }

@@ -167,10 +167,8 @@ pub fn attach(setup: &Setup, words: &[&str]) -> Result<ScriptLine, ScriptFault>
     let [session, queue, tag, taker] = words else {
         return Err(ScriptFault::Words);
     };
-    match consumer_of(session, tag) {
-        Ok((session, tag)) => attach_to(setup, session, tag, queue, taker),
-        Err(fault) => Err(fault),
-    }
+    let (session, tag) = consumer_of(session, tag)?;
+    attach_to(setup, session, tag, queue, taker)
 }
 
 /// `N IMAGE`, or `all IMAGE`.
@@ -184,14 +182,9 @@ pub fn crash(alloc: Global, setup: &Setup, words: &[&str]) -> Result<ScriptLine,
     let [node, image @ ..] = words else {
         return Err(ScriptFault::Words);
     };
-    let image = match image_of(alloc, image) {
-        Ok(image) => image,
-        Err(fault) => return Err(fault),
-    };
-    match nodes_of(setup, node) {
-        Ok(nodes) => Ok(ScriptLine::Crash { nodes, image }),
-        Err(fault) => Err(fault),
-    }
+    let image = image_of(alloc, image)?;
+    let nodes = nodes_of(setup, node)?;
+    Ok(ScriptLine::Crash { nodes, image })
 }
 
 fn key_of(word: &str) -> Option<&str>
@@ -216,10 +209,7 @@ fn send_to(
     ensures cause { (line : List ℕ) → behind_four line ≡ text.now → IfErr result (λ e.
         HasScriptCause e (send_to line session exchange.now key.now)) }
 {
-    let body = match body_of(alloc, text.as_bytes()) {
-        Ok(body) => body,
-        Err(fault) => return Err(fault),
-    };
+    let body = body_of(alloc, text.as_bytes())?;
     Ok(ScriptLine::Send {
         session,
         exchange: Text::from_str(alloc, exchange)?,
@@ -259,11 +249,7 @@ pub fn publish(alloc: Global, setup: &Setup, text: &[u8]) -> Result<ScriptLine, 
     ensures ok { IfOk result (λ said. publish setup.now text.now ≡ Ok said) }
     ensures cause { IfErr result (λ e. HasScriptCause e (publish setup.now text.now)) }
 {
-    if let Err(fault) = first_queue(setup) {
-        return Err(fault);
-    }
-    match body_of(alloc, text) {
-        Ok(body) => Ok(ScriptLine::Publish { body }),
-        Err(fault) => Err(fault),
-    }
+    first_queue(setup)?;
+    let body = body_of(alloc, text)?;
+    Ok(ScriptLine::Publish { body })
 }

@@ -175,22 +175,22 @@ fn command_of(alloc: Global, name: &str, words: &[&str]) -> Result<Unstamped, Sc
         HasScriptCause e (command_of name.now (map (λ w. w.now) words.now))) }
 {
     match name {
-        "settle" => match deliveries(alloc, words) {
-            Ok((tag, ids)) => Ok(Unstamped::Settle { tag, ids }),
-            Err(fault) => Err(fault),
-        },
-        "return" => match deliveries(alloc, words) {
-            Ok((tag, ids)) => Ok(Unstamped::Return { tag, ids }),
-            Err(fault) => Err(fault),
-        },
-        "discard" => match deliveries(alloc, words) {
-            Ok((tag, ids)) => Ok(Unstamped::Discard { tag, ids }),
-            Err(fault) => Err(fault),
-        },
-        _ => match plain_command(name, words) {
-            Ok(body) => Ok(body),
-            Err(fault) => Err(fault),
-        },
+        "settle" => {
+            let (tag, ids) = deliveries(alloc, words)?;
+            Ok(Unstamped::Settle { tag, ids })
+        }
+        "return" => {
+            let (tag, ids) = deliveries(alloc, words)?;
+            Ok(Unstamped::Return { tag, ids })
+        }
+        "discard" => {
+            let (tag, ids) = deliveries(alloc, words)?;
+            Ok(Unstamped::Discard { tag, ids })
+        }
+        _ => {
+            let body = plain_command(name, words)?;
+            Ok(body)
+        }
     }
 }
 
@@ -229,19 +229,11 @@ pub fn client_line(
     ensures cause { IfErr result (λ e.
         HasScriptCause e (client_line setup.now name.now (map (λ w. w.now) words.now))) }
 {
-    let body = match command_of(alloc, name, words) {
-        Ok(body) => body,
-        Err(fault) => return Err(fault),
-    };
-    match client_at(setup, words) {
-        Ok((session, queue)) => Ok(ScriptLine::Client {
-            session,
-            queue,
-            body,
-        }),
-        Err(fault) => {
-            drop(body);
-            Err(fault)
-        }
-    }
+    let body = command_of(alloc, name, words)?;
+    let (session, queue) = client_at(setup, words)?;
+    Ok(ScriptLine::Client {
+        session,
+        queue,
+        body,
+    })
 }

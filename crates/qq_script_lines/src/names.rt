@@ -101,10 +101,8 @@ pub fn nodes_of(setup: &Setup, word: &str) -> Result<Nodes, ScriptFault>
     if word == "all" {
         return Ok(Nodes::All);
     }
-    match node_of(setup, word) {
-        Ok(node) => Ok(Nodes::One(node)),
-        Err(fault) => Err(fault),
-    }
+    let node = node_of(setup, word)?;
+    Ok(Nodes::One(node))
 }
 
 fn is_member(node: NodeId, row: &QueueRow) -> bool

@@ -138,10 +138,9 @@ fn plain_or_client(
     ensures cause { IfErr result (λ e.
         HasScriptCause e (plain_or_client setup.now word.now (map (λ w. w.now) words.now))) }
 {
-    match plain_line(setup, word, words) {
-        Ok(Some(said)) => Ok(said),
-        Ok(None) => client_line(alloc, setup, word, words),
-        Err(fault) => Err(fault),
+    match plain_line(setup, word, words)? {
+        Some(said) => Ok(said),
+        None => client_line(alloc, setup, word, words),
     }
 }
 
@@ -172,10 +171,10 @@ fn read_listed(
     match word {
         "publish" => Err(ScriptFault::Words),
         "crash" => crash(alloc, setup, words),
-        "attach" => match attach(setup, words) {
-            Ok(said) => Ok(said),
-            Err(fault) => Err(fault),
-        },
+        "attach" => {
+            let said = attach(setup, words)?;
+            Ok(said)
+        }
         _ => plain_or_client(alloc, setup, word, words),
     }
 }
@@ -248,10 +247,8 @@ fn read_words(
         HasScriptCause e (read_words setup.now place line.now (words_of line.now))) }
 {
     let (word, rest) = first_word(line);
-    match read(alloc, setup, word, rest) {
-        Ok(said) => in_place(place, said),
-        Err(fault) => Err(fault),
-    }
+    let said = read(alloc, setup, word, rest)?;
+    in_place(place, said)
 }
 
 /// A line as text, None where it isn't UTF-8.

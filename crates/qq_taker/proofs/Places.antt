@@ -8,7 +8,6 @@ use Rattle.std.proofs.Math.Seq.{map-set_same}
 use Rattle.std.proofs.lemmas.Option.{get_or_from_slice_get, slice_get-map, slice_get_read}
 use Rattle.qq_entry.specs.declared.answer.Delivery.{Delivery}
 use Rattle.qq_taker.specs.declared.desk.Place.{Place}
-use Rattle.qq_taker.specs.declared.heard.Heard.{Heard}
 use Rattle.qq_taker.specs.declared.taker.Seen.{Seen}
 use Rattle.qq_taker.specs.declared.taker.Verdict.{Verdict}
 use Rattle.qq_taker.specs.Takers.{Held, Free, Given, Gone, IsOffered, LooksAt, Takers, change_at, change_held, hand, held_by, held_of, is_free, is_free_by, is_given_by, look, seen_at, seen_there, taker_at}
@@ -22,10 +21,10 @@ pub there : {A : Type 0} (rows : List A) (at : ℕ) (old : A) → at < length ro
     → slice_get rows at ≡ Some old
 there rows at old within is = slice_get_read rows (length rows) at old refl within is
 
-module _ {T : Type 0} (seen : T → Option (List Seen)) (heard : Option (List Heard)) where
-  -- the takers of these places, where this was kept
+module _ {T : Type 0} (seen : T → Option (List Seen)) where
+  -- the takers of these places
   abbrev pub desk_of : List (Place T) → Takers
-  desk_of rows = record { held = held_of seen rows; heard = heard }
+  desk_of rows = record { held = held_of seen rows }
 
   -- the taker of a number that isn't 0
   pub at-place : (number : ℕ) (rows : List (Place T)) → (number ≡ 0 → ⊥)
@@ -43,7 +42,7 @@ module _ {T : Type 0} (seen : T → Option (List Seen)) (heard : Option (List He
   changed (suc at) rows change old new some found is =
       let at-it = ap (λ (k : ℕ). slice_get rows k) (sym (minus-one at)) ∙ found in
       let whole = slice_get-map (held_by seen) rows at ∙ ap (option_map (held_by seen)) at-it in
-      let with : List Held → Takers = λ held. record { held = held; heard = heard } in
+      let with : List Held → Takers = λ held. record { held = held } in
       ap with (ap (λ (k : ℕ). held_of seen (slice_set rows k new)) (minus-one at)
       ∙ map-set (held_by seen) rows at new
       ∙ ap (slice_set (held_of seen rows) at) is
@@ -54,7 +53,7 @@ module _ {T : Type 0} (seen : T → Option (List Seen)) (heard : Option (List He
   pub same-place : (number : ℕ) (rows : List (Place T)) (old new : Place T) → slice_get rows (number - 1) ≡ Some old
       → held_by seen new ≡ held_by seen old → desk_of (slice_set rows (number - 1) new) ≡ desk_of rows
   same-place number rows old new found is =
-      let with : List Held → Takers = λ held. record { held = held; heard = heard } in
+      let with : List Held → Takers = λ held. record { held = held } in
       ap with (map-set_same (held_by seen) rows (number - 1) new new
       (is ∙ ap (held_by seen) (sym (get_or_from_slice_get rows (number - 1) old new found))))
 
@@ -111,7 +110,7 @@ pub change-twice : (f g : Held → Held) → ((one : Held) → f (g one) ≡ g o
     → change_at number f (change_at number g all) ≡ change_at number g all
 change-twice f g same zero all = refl
 change-twice f g same (suc at) all =
-    let with : List Held → Takers = λ held. record { held = held; heard = all.heard } in
+    let with : List Held → Takers = λ held. record { held = held } in
     ap with (twice f g same at all.held)
 
 other-stays : (f : Held → Held) (at other : ℕ) (held : List Held) → at ≢ other

@@ -1,10 +1,8 @@
--- The takers of a run, under the numbers 1, 2, 3 and so on, and who listens beside them to what is told.
-use Rattle.std.specs.Prelude.{◌≡◌, ℕ, zero, suc, List, [], ◌∷◌, ◌++◌, Bool, false, true, Option, None, Some, map, slice_get}
-use Rattle.std.specs.Global.{Vec}
+-- The takers of a run, under the numbers 1, 2, 3 and so on.
+use Rattle.std.specs.Prelude.{◌≡◌, ℕ, zero, suc, List, [], Bool, false, true, Option, None, Some, map, slice_get}
 use Rattle.std.specs.List.{slice_set}
-use Rattle.std.specs.Option.{option_map, option_map_or}
+use Rattle.std.specs.Option.{option_map_or}
 use Rattle.qq_entry.specs.declared.answer.Delivery.{Delivery}
-use Rattle.qq_taker.specs.declared.heard.Heard.{Heard}
 use Rattle.qq_taker.specs.declared.desk.Place.{Place}
 use Rattle.qq_taker.specs.declared.desk.Place.TheVariants as places
 use Rattle.qq_taker.specs.declared.taker.Seen.{Seen}
@@ -20,10 +18,8 @@ pub data Held : Type 0 where
   -- it was dropped
   Gone : Held
 
--- the takers, and what was told of queues, in order, where somebody listens
 pub record Takers : Type 0 where
   pub held : List Held
-  pub heard : Option (List Heard)
 
 -- the takers of a desk, where `seen` tells what each has seen
 abbrev pub held_by : {T : Type 0} → (T → Option (List Seen)) → Place T → Held
@@ -35,7 +31,7 @@ abbrev pub held_of : {T : Type 0} → (T → Option (List Seen)) → List (Place
 held_of seen rows = map (held_by seen) rows
 
 abbrev pub no_takers : Takers
-no_takers = record { held = []; heard = None }
+no_takers = record { held = [] }
 
 -- ---- one of them
 
@@ -115,25 +111,3 @@ abbrev pub IsOffered : ℕ → Delivery → Option Verdict → Takers → Takers
 IsOffered number delivery None old new = (is_given number old ≡ false) × (new ≡ old)
 IsOffered number delivery (Some verdict) old new =
     (is_given number old ≡ true) × (new ≡ judge number delivery verdict old)
-
--- ---- who listens
-
--- from here on what is told is kept
-abbrev pub listen : Takers → Takers
-listen all = record all { heard = Some [] }
-
--- something is told of a queue
-abbrev pub hear : Heard → Takers → Takers
-hear h all = record all { heard = option_map (λ (list : List Heard). list ++ h ∷ []) all.heard }
-
--- what was kept is taken out, and what comes next is kept
-abbrev pub take_heard : Takers → Takers
-take_heard all = record all { heard = option_map (λ (list : List Heard). []) all.heard }
-
--- what is heard from here on is kept apart from what was heard before
-abbrev pub hear_on : Option (List Heard) → Takers → Takers
-hear_on before all = record all { heard = before }
-
--- what a desk has kept
-abbrev pub heard_of : Option (Vec Heard) → Option (List Heard)
-heard_of kept = option_map (λ (list : Vec Heard). list.items) kept

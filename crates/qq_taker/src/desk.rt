@@ -1,12 +1,9 @@
 ghost use Rattle.std.specs.Prelude.{◌≡◌, ◌++◌, ◌∷◌, [], IfOk, IsOkUnless, OnErr, OnOk, option_copied, option_map};
-ghost use Rattle.qq_taker.specs.declared.heard.What.TheVariants as whats;
-ghost use Rattle.qq_taker.specs.Takers.{Free, Gone, IsOffered, LooksAt, drop_at, give, hand, hear, hear_on, heard_of, held_by, is_free, is_free_by, listen, no_takers, seen_at, seen_there, take_heard};
+ghost use Rattle.qq_taker.specs.Takers.{Free, Gone, IsOffered, LooksAt, drop_at, give, hand, held_by, is_free, is_free_by, no_takers, seen_at, seen_there};
 
-use crate::handed::Handed;
-use crate::heard::{Heard, Refusal, What};
 use crate::taker::{Taker, Verdict};
-use qq_base::{ConsumerId, Duplicate, Memory, QueueId};
-use qq_entry::{AuditRow, Delivery};
+use qq_base::Memory;
+use qq_entry::Delivery;
 use std::alloc::Global;
 use std::marker::Model;
 use std::mem;
@@ -80,78 +77,29 @@ impl<T: Taker> Place<T> {
     }
 }
 
-// Something that is told of a queue is kept.
-fn keep(kept: &mut Vec<Heard>, queue: QueueId, what: What) -> Result<(), Memory>
-    ensures ok { OnOk result (kept.new.items
-        ≡ kept.old.items ++ record { queue = queue; what = what } ∷ []) }
-    ensures err { OnErr result (kept.new.items ≡ kept.old.items) }
-    ensures want { IsOkUnless result Memory.Want }
-{
-    kept.push(Heard { queue, what })?;
-    Ok(())
-}
-
-// A copy of a row of a queue's audit is kept.
-fn keep_answer(
-    alloc: Global,
-    kept: &mut Vec<Heard>,
-    queue: QueueId,
-    row: &AuditRow,
-) -> Result<(), Memory>
-    ensures ok { OnOk result (kept.new.items
-        ≡ kept.old.items ++ record { queue = queue; what = whats.Answer row.now } ∷ []) }
-    ensures err { OnErr result (kept.new.items ≡ kept.old.items) }
-    ensures want { IsOkUnless result Memory.Want }
-{
-    let row = row.copy(alloc)?;
-    keep(kept, queue, What::Answer(row))
-}
-
-// A copy of a delivery is kept.
-fn keep_delivery(
-    alloc: Global,
-    kept: &mut Vec<Heard>,
-    queue: QueueId,
-    consumer: ConsumerId,
-    delivery: &Delivery,
-) -> Result<(), Memory>
-    ensures ok { OnOk result (kept.new.items ≡ kept.old.items ++ record {
-      queue = queue;
-      what = whats.Delivery (record { consumer = consumer; delivery = delivery.now });
-    } ∷ []) }
-    ensures err { OnErr result (kept.new.items ≡ kept.old.items) }
-    ensures want { IsOkUnless result Memory.Want }
-{
-    let delivery = delivery.copy(alloc)?;
-    keep(kept, queue, What::Delivery(Handed { consumer, delivery }))
-}
-
 /// The takers of a run, under the numbers 1, 2, 3 and so on. Each may be given to one consumer, once.
 ///
-/// Beside them, who listens is told answers, deliveries to consumers without a taker, and that commands weren't given
-/// to a leader. Contracts see of each taker whether it was given and what it has seen, and what was kept.
+/// Contracts see of each taker whether it was given and what it has seen.
 #[derive(Drop)]
 pub struct Desk<T: Taker> {
     rows: Vec<Place<T>>,
-    heard: Option<Vec<Heard>>,
 }
 
 impl<T: Taker> Model for Desk<T> {
-    ghost use Rattle.qq_taker.specs.Takers.{Takers, heard_of, held_of};
+    ghost use Rattle.qq_taker.specs.Takers.{Takers, held_of};
 
     ghost Value = { Takers };
 
-    ghost view = { λ d. record { held = held_of T.seen d.rows.items; heard = heard_of d.heard } };
+    ghost view = { λ d. record { held = held_of T.seen d.rows.items } };
 }
 
 impl<T: Taker> Desk<T> {
-    /// No taker, and nobody listens. It takes no memory.
+    /// No taker. It takes no memory.
     pub fn new(alloc: Global) -> Self
         ensures { result ≡ no_takers }
     {
         Desk {
             rows: Vec::new(alloc),
-            heard: None,
         }
     }
 
@@ -235,87 +183,5 @@ impl<T: Taker> Desk<T> {
             return;
         };
         place.leave();
-    }
-
-    /// From here on what is told is kept. What was kept before is dropped.
-    pub fn listen(&mut self, alloc: Global)
-        ensures { self.new ≡ listen self.old }
-    {
-        self.heard = Some(Vec::new(alloc));
-    }
-
-    /// The answer of a row of a queue's audit is told. Where nobody listens nothing is copied. Out of memory, all is as
-    /// before.
-    pub fn hear_answer(
-        &mut self,
-        alloc: Global,
-        queue: QueueId,
-        row: &AuditRow,
-    ) -> Result<(), Memory>
-        ensures ok { OnOk result (self.new
-            ≡ hear (record { queue = queue; what = whats.Answer row.now }) self.old) }
-        ensures err { OnErr result (self.new ≡ self.old) }
-        ensures want { IsOkUnless result Memory.Want }
-    {
-        match &mut self.heard {
-            None => Ok(()),
-            Some(kept) => keep_answer(alloc, kept, queue, row),
-        }
-    }
-
-    /// A delivery to a consumer without a taker is told. Where nobody listens nothing is copied. Out of memory, all is
-    /// as before.
-    pub fn hear_delivery(
-        &mut self,
-        alloc: Global,
-        queue: QueueId,
-        consumer: ConsumerId,
-        delivery: &Delivery,
-    ) -> Result<(), Memory>
-        ensures ok { OnOk result (self.new ≡ hear (record {
-          queue = queue;
-          what = whats.Delivery (record { consumer = consumer; delivery = delivery.now });
-        }) self.old) }
-        ensures err { OnErr result (self.new ≡ self.old) }
-        ensures want { IsOkUnless result Memory.Want }
-    {
-        match &mut self.heard {
-            None => Ok(()),
-            Some(kept) => keep_delivery(alloc, kept, queue, consumer, delivery),
-        }
-    }
-
-    /// A session's command wasn't given to a queue's leader, and that is told. Out of memory, all is as before.
-    pub fn hear_refusal(&mut self, queue: QueueId, session: u64, why: Refusal) -> Result<(), Memory>
-        ensures ok { OnOk result (self.new
-            ≡ hear (record { queue = queue; what = whats.Refused session why }) self.old) }
-        ensures err { OnErr result (self.new ≡ self.old) }
-        ensures want { IsOkUnless result Memory.Want }
-    {
-        match &mut self.heard {
-            None => Ok(()),
-            Some(kept) => keep(kept, queue, What::Refused { session, why }),
-        }
-    }
-
-    /// What was kept, in order; from here on what comes next is kept. None exactly where nobody listens.
-    pub fn take_heard(&mut self, alloc: Global) -> Option<Vec<Heard>>
-        ensures heard { heard_of result ≡ self.old.heard }
-        ensures rest { self.new ≡ take_heard self.old }
-    {
-        match &mut self.heard {
-            None => None,
-            Some(kept) => Some(mem::replace(kept, Vec::new(alloc))),
-        }
-    }
-
-    /// What was kept is handed out, and what comes next is kept after this list. None is as if nobody listened.
-    ///
-    /// A caller that hears a call by itself begins with an empty list, and puts back what it was handed.
-    pub fn hear_on(&mut self, list: Option<Vec<Heard>>) -> Option<Vec<Heard>>
-        ensures heard { heard_of result ≡ self.old.heard }
-        ensures rest { self.new ≡ hear_on (heard_of list) self.old }
-    {
-        mem::replace(&mut self.heard, list)
     }
 }

@@ -1,11 +1,10 @@
 //! Laws of takers. Each is the contract of a function with no parameters.
-ghost use Rattle.std.specs.Prelude.{◌≡◌, ◌≢◌, ◌∷◌, [], ℕ, List, None, Option, Some};
+ghost use Rattle.std.specs.Prelude.{◌≡◌, ◌≢◌, ℕ, List, Option, Some};
 ghost use Rattle.qq_entry.specs.declared.answer.Delivery.{Delivery};
-ghost use Rattle.qq_taker.specs.declared.heard.Heard.{Heard};
 ghost use Rattle.qq_taker.specs.declared.taker.Seen.{Seen};
 ghost use Rattle.qq_taker.specs.declared.taker.Verdict.{Verdict};
 ghost use Rattle.qq_taker.specs.Seen.{see};
-ghost use Rattle.qq_taker.specs.Takers.{Free, Given, Gone, Held, Takers, drop_at, give, hear, hear_on, judge, listen, take_heard, taker_at};
+ghost use Rattle.qq_taker.specs.Takers.{Free, Given, Gone, Held, Takers, drop_at, give, judge, taker_at};
 
 /// A taker that was given to a consumer sees what it is offered, with its verdict, and no other taker does.
 pub fn given_takers_see_what_they_are_offered()
@@ -36,21 +35,4 @@ pub fn takers_see_nothing_after_the_drop()
         judge number delivery verdict (drop_at number all) ≡ drop_at number all }
     ensures given { (all : Takers) (number : ℕ) →
         give number (drop_at number all) ≡ drop_at number all }
-{}
-
-/// Who listens hears all that is told from then on, in order, and what comes next after that was taken out. Where
-/// nobody listens nothing is kept. A call may be heard by itself: once what was kept before is put back, all is as it
-/// was.
-pub fn what_is_told_is_kept_in_order()
-    ensures heard { (all : Takers) (first second : Heard) →
-        (hear second (hear first (listen all))).heard ≡ Some (first ∷ second ∷ []) }
-    ensures next { (all : Takers) (first second : Heard) →
-        (hear second (take_heard (hear first (listen all)))).heard ≡ Some (second ∷ []) }
-    ensures nobody { (all : Takers) (told : Heard) → all.heard ≡ None → hear told all ≡ all }
-    ensures between { (all : Takers) (told : Heard) →
-        (hear told (hear_on (Some []) all)).heard ≡ Some (told ∷ []) }
-    ensures back { (all : Takers) (told : Heard) →
-        hear_on all.heard (hear told (hear_on (Some []) all)) ≡ all }
-    ensures takers { (all : Takers) (told : Heard) (number : ℕ) →
-        taker_at number (hear told (listen all)) ≡ taker_at number all }
 {}

@@ -4,7 +4,6 @@
 mod desk;
 mod fixed;
 mod handed;
-mod heard;
 mod laws;
 mod noting;
 mod seats;
@@ -13,10 +12,9 @@ mod taker;
 pub use desk::Desk;
 pub use fixed::FixedTaker;
 pub use handed::Handed;
-pub use heard::{Heard, Refusal, What};
 pub use laws::{
     given_takers_see_what_they_are_offered, takers_are_given_once,
-    takers_see_nothing_after_the_drop, what_is_told_is_kept_in_order,
+    takers_see_nothing_after_the_drop,
 };
 pub use noting::NotingTaker;
 pub use qq_base::{ConsumerId, Memory, QueueId};

@@ -7,5 +7,4 @@ returns-clause-line g c = λ given old new run session queue body before later c
     call-line (setup_in old.setup run) (cluster_in old.setup run) session queue body so.more so.allowed auto
 
 pub returns-clause-takers : goal.returns-clause-takers
-returns-clause-takers g c = λ given old new run session queue body before later called so.
-    (λ i. record { held = so.held i; heard = so.heard i })
+returns-clause-takers g c = λ given old new run session queue body before later called so. so.sees

@@ -1,12 +1,14 @@
 use Rattle.std.proofs.Common.{ap, map, ◌∙◌}
+use Rattle.std.specs.List.{flat_map}
 use Rattle.qq_entry.specs.declared.audit.AuditRow.{AuditRow}
 use Rattle.qq_taker.specs.declared.handed.Handed.{Handed}
-use Rattle.qq_taker.specs.declared.heard.Heard.{Heard}
-use Rattle.qq_broker.proofs.CallWorked.{is-idle, worked-answers, worked-effects, worked-idle, worked-others, worked-outcome, worked-rows}
+use Rattle.qq_cluster_model.specs.Texts.{printed_text}
+use Rattle.qq_broker.specs.CallExample.{two_queues}
+use Rattle.qq_broker.proofs.CallWorked.{is-idle, worked-answers, worked-effects, worked-idle, worked-others, worked-refused, worked-rows}
 use Rattle.qq_broker.proofs.call_laws.a_worked_call_is_answered.Goals as goal
 
-pub returns-clause-outcome : goal.returns-clause-outcome
-returns-clause-outcome c = λ called so. so.outcome ∙ worked-outcome
+pub returns-clause-refused : goal.returns-clause-refused
+returns-clause-refused c = λ called so. so.refused ∙ worked-refused
 
 pub returns-clause-rows : goal.returns-clause-rows
 returns-clause-rows c = λ called so. ap (map (λ (row : AuditRow). row.index.0)) so.rows ∙ worked-rows
@@ -18,7 +20,7 @@ pub returns-clause-effects : goal.returns-clause-effects
 returns-clause-effects c = λ called so. ap (map (λ (h : Handed). h.delivery.id)) so.effects ∙ worked-effects
 
 pub returns-clause-others : goal.returns-clause-others
-returns-clause-others c = λ called so. ap (map (λ (h : Heard). h.queue.0)) so.others ∙ worked-others
+returns-clause-others c = λ called so. ap (flat_map (printed_text two_queues)) so.others ∙ worked-others
 
 pub returns-clause-idle : goal.returns-clause-idle
 returns-clause-idle c = λ called so. is-idle called.pumped (so.idle ∙ worked-idle)

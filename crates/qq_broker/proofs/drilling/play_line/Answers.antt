@@ -22,7 +22,6 @@ returns-in-Err-clause-cause g c = λ given run k so.
 pub returns-in-Ok-clause-ok : goal.returns-in-Ok-clause-ok
 returns-in-Ok-clause-ok g c = λ given run k so.
     (let disk = g.Y.Disk.NodeDisk in
-    line-served given disk.facts c.args.setup.now c.who_listens_hears_what_is_told.ensures.heard run c.args.line k
-    c.args.nodes.now c.serve_free.new.nodes
+    line-served given disk.facts c.args.setup.now run c.args.line k c.args.nodes.now c.serve_free.new.nodes
     c.args.told.now c.serve_free.new.told c.tell.new.told c.args.play.now c.tell.new.play so
     (c.in_default.ensures.ok given run so.holds) c.in-Ok.ensures.silent c.in-Ok.ensures.ok)

@@ -4,7 +4,7 @@ use Rattle.qq_cluster_run.proofs.Beginnings.{keeps-all}
 use Rattle.qq_ports.specs.Streams.{sink_state}
 use Rattle.qq_broker.specs.Lives.{under}
 use Rattle.qq_broker.specs.Nodes.{Meets}
-use Rattle.qq_broker.proofs.DrillEnds.{first_run, known_first, listens, no-room, opened-drilled, opened-plays}
+use Rattle.qq_broker.proofs.DrillEnds.{first_run, known_first, no-room, opened-drilled, opened-plays}
 use Rattle.qq_broker.proofs.drills.open_drill.Goals as goal
 
 pub returns-in-Err-tell-clause-ends : goal.returns-in-Err-tell-clause-ends
@@ -27,13 +27,11 @@ serve_drill-requires-clause-plays g c = λ lifetimes bounds.
     let so = c.in-Ok.ensures.ok in (
       given,
       (
-        first_run given disk.facts s c.in-Ok.nodes c.listen.new.self c.open.new.told so,
+        first_run given disk.facts s c.in-Ok.nodes c.new-told.result c.open.new.told so,
         (
-          known_first given disk.facts s c.args.number c.in-Ok.nodes c.listen.new.self c.open.new.told so,
-          opened-plays given disk.facts s c.who_listens_hears_what_is_told.ensures.heard c.args.number c.in-Ok.nodes
-              c.listen.new.self c.open.new.told c.tell.new.told c.args.play c.tell.new.play
-              (listens c.new-told.result c.listen.new.self (ap (λ (o : Outcome). o.text) c.new-told.ensures)
-              c.listen.ensures) so c.requires.knows c.in_default.ensures.silent c.in_default.ensures.ok,
+          known_first given disk.facts s c.args.number c.in-Ok.nodes c.new-told.result c.open.new.told so,
+          opened-plays given disk.facts s c.args.number c.in-Ok.nodes c.new-told.result c.open.new.told c.tell.new.told
+              c.args.play c.tell.new.play (ap (λ (o : Outcome). o.printed) c.new-told.ensures) so c.requires.knows c.in_default.ensures.silent c.in_default.ensures.ok,
         ),
       ),
     ))
@@ -48,12 +46,10 @@ returns-clause-ends g c = λ source.
     let so = c.in-Ok.ensures.ok in
     opened-drilled given disk.facts s (yards c.args.yard.now) (yards c.open.new.yard) (yards c.serve_drill.new.yard)
     c.in-Ok.ensures.later c.args.number c.serve_drill.result c.args.list.now source
-    (state c.args.output.now) (state c.serve_drill.new.output) c.in-Ok.nodes c.listen.new.self c.open.new.told
+    (state c.args.output.now) (state c.serve_drill.new.output) c.in-Ok.nodes c.new-told.result c.open.new.told
     c.requires.parts so
     (c.serve_drill.ensures.ends given
-    (first_run given disk.facts s c.in-Ok.nodes c.listen.new.self c.open.new.told so)
-    (known_first given disk.facts s c.args.number c.in-Ok.nodes c.listen.new.self c.open.new.told so)
-    (opened-plays given disk.facts s c.who_listens_hears_what_is_told.ensures.heard c.args.number c.in-Ok.nodes
-    c.listen.new.self c.open.new.told c.tell.new.told c.args.play c.tell.new.play
-    (listens c.new-told.result c.listen.new.self (ap (λ (o : Outcome). o.text) c.new-told.ensures) c.listen.ensures) so
-    c.requires.knows c.in_default.ensures.silent c.in_default.ensures.ok)))
+    (first_run given disk.facts s c.in-Ok.nodes c.new-told.result c.open.new.told so)
+    (known_first given disk.facts s c.args.number c.in-Ok.nodes c.new-told.result c.open.new.told so)
+    (opened-plays given disk.facts s c.args.number c.in-Ok.nodes c.new-told.result c.open.new.told c.tell.new.told
+    c.args.play c.tell.new.play (ap (λ (o : Outcome). o.printed) c.new-told.ensures) so c.requires.knows c.in_default.ensures.silent c.in_default.ensures.ok)))

@@ -52,11 +52,11 @@ returns-then-some-clause-ok g c =
     (let same = c.begin_over.ensures.room in let many = c.requires.count in let own = c.args.disks.ok.0 in
     let most = c.args.disks.ok.1 in omega (arith, same, many, own, most)) in
     let broker : Broker _ =
-    record { setup = s; nodes = c.open-opened.new.nodes; text = c.give_back.new.text; room = c.begin_over.new.disks } in
+    record { setup = s; nodes = c.open-opened.new.nodes; printed = c.give_back.new.printed; room = c.begin_over.new.disks } in
     told-so
     (λ before later. HasOpened (Had given disk.facts) s (Runs given disk.facts broker) before later) c.lend-told.result
-    c.open-opened.new.told _ c.give_back.new.text.items c.args.takers.now c.give_back.new.takers c.lend-told.ensures
-    c.new-text.ensures.items c.give_back.ensures.text c.give_back.ensures.takers
+    c.open-opened.new.told _ c.give_back.new.printed.items c.args.takers.now c.give_back.new.takers c.lend-told.ensures
+    c.new-printed.ensures.items c.give_back.ensures.printed c.give_back.ensures.takers
     (opened-runs given disk.facts s c.requires.may broker c.open-opened.new.nodes c.lend-told.result
     c.open-opened.new.told refl refl c.in-Ok.ensures.empty room
     (has-opened given disk.facts s c.requires.may begins c.in-Ok.nodes u c.open-opened.new.nodes c.lend-told.result

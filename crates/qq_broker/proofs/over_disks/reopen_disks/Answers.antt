@@ -50,13 +50,13 @@ returns-then-some-clause-ok g c =
     let most = c.args.disks.ok.1 in
     λ given run before images rests back.
     (let broker : Broker _ =
-    record { setup = s; nodes = c.reopen-opened.new.nodes; text = c.give_back.new.text; room = c.put_disks.new.disks } in
+    record { setup = s; nodes = c.reopen-opened.new.nodes; printed = c.give_back.new.printed; room = c.put_disks.new.disks } in
     told-so
     (λ first later. HasReopened (Had given disk.facts) (setup_in s run)
     (crashed_events (setup_in s run) run.events images)
     (λ events. Runs given disk.facts broker (with_events run events)) first later) c.lend-told.result
-    c.reopen-opened.new.told _ c.give_back.new.text.items c.args.takers.now c.give_back.new.takers
-    c.lend-told.ensures c.new-text.ensures.items c.give_back.ensures.text c.give_back.ensures.takers
+    c.reopen-opened.new.told _ c.give_back.new.printed.items c.args.takers.now c.give_back.new.takers
+    c.lend-told.ensures c.new-printed.ensures.items c.give_back.ensures.printed c.give_back.ensures.takers
     (has-reopened given disk.facts s before again c.args.audits run images rests back may held same get c.in-Ok.some
     c.reopen-opened.new.nodes c.lend-told.result c.reopen-opened.new.told
     c.in-Ok.ensures.ok broker c.if-some.true refl refl c.put_disks.ensures.empty

@@ -1,6 +1,7 @@
 use Rattle.std.proofs.Common.{◌≡◌, ℕ, List, [], inl, inr, refl, subst, arith}
 use Rattle.qq_ports.specs.Streams.{sink_state, source_state}
 use Rattle.qq_cluster_model.specs.Outcome.{Outcome}
+use Rattle.qq_cluster_model.specs.declared.printed.Printed.{Printed}
 use Rattle.qq_cluster_run.proofs.Beginnings.{closed-at-once}
 use Rattle.qq_cluster_run.proofs.Closings.{unopened_earlier}
 use Rattle.qq_cluster_run.specs.Runs.{MayNotOpen}
@@ -12,11 +13,11 @@ use Rattle.qq_broker.proofs.Closed.{run-stopped}
 use Rattle.qq_broker.proofs.Meeting.{run-meets}
 use Rattle.qq_broker.proofs.program.open_told.Goals as goal
 
--- what the opening told began with no text
-opened-so : {A : Type 0} (Opened : Outcome → A → Type 0) (told : Outcome) (later : A) → told.text ≡ []
-    → Opened told later → Opened (record { text = []; takers = told.takers }) later
+-- before the opening nothing was printed
+opened-so : {A : Type 0} (Opened : Outcome → A → Type 0) (told : Outcome) (later : A) → told.printed ≡ []
+    → Opened told later → Opened (record { printed = []; takers = told.takers }) later
 opened-so Opened told later none so =
-    subst (λ (l : List ℕ). let o : Outcome = record { text = l; takers = told.takers } in Opened o later) none so
+    subst (λ (l : List Printed). let o : Outcome = record { printed = l; takers = told.takers } in Opened o later) none so
 
 pub returns-in-Err-clause-ends : goal.returns-in-Err-clause-ends
 returns-in-Err-clause-ends g c =

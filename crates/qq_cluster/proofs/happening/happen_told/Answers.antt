@@ -11,13 +11,11 @@ use Rattle.qq_cluster.proofs.happening.happen_told.Goals as goal
 
 pub returns-clause-ok : goal.returns-clause-ok
 returns-clause-ok g c =
-    told-does c.args.first c.args.event (standings c.args.sessions.now) c.args.queue.now c.happen.new.self
-    c.number.result.0 c.happen.new.self.name c.happen.new.shown.items c.as_slice.result.now c.args.told.now
-    c.tell_all.new.self c.requires.may
+    told-does c.args.event (standings c.args.sessions.now) c.args.queue.now c.happen.new.self
+    c.number.result.0 c.happen.new.shown.items c.args.told.now c.tell_all.new.self c.requires.may
     (λ q stands. let both = c.in_ok-happen.ensures.ok q stands in
     (both.0, both.1 ∙ ap (λ (l : List Shown). l ++ said q (event_of c.args.event)) c.new-shown.ensures.items))
-    c.as_slice.ensures.value
-    (ap (λ (q : QueueId). q.0) c.number.ensures ∙ ap (λ (a : QueueArgs). a.queue.0) c.happen.ensures.same.args_is) c.happen.ensures.same.name_is
+    (ap (λ (q : QueueId). q.0) c.number.ensures ∙ ap (λ (a : QueueArgs). a.queue.0) c.happen.ensures.same.args_is)
     c.in_ok-tell_all.ensures.ok
 
 pub returns-in_err-happen-clause-cause : goal.returns-in_err-happen-clause-cause

@@ -1,8 +1,8 @@
-use Rattle.qq_cluster_laws.proofs.Serves.{happened-disks, happened-text}
+use Rattle.qq_cluster_laws.proofs.Serves.{happened-disks, happened-outcome}
 use Rattle.qq_cluster_laws.proofs.serving.what_happened_is_on_the_disks.Goals as goal
 
-pub returns-clause-text : goal.returns-clause-text
-returns-clause-text c = happened-text
+pub returns-clause-outcome : goal.returns-clause-outcome
+returns-clause-outcome c = happened-outcome
 
 pub returns-clause-disks : goal.returns-clause-disks
 returns-clause-disks c = happened-disks

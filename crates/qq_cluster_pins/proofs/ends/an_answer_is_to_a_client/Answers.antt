@@ -2,7 +2,8 @@ use Rattle.qq_base.proofs.Lists.{AllByRecursion-in}
 use Rattle.qq_model.proofs.Soundness.{in_contains}
 use Rattle.qq_session.specs.Printed.{IsAnswer, IsAudited}
 use Rattle.qq_session.specs.declared.shown.Shown.TheVariants.{Answered, Delivered, Taken}
-use Rattle.qq_cluster_model.specs.Cluster.{Of, all_prints, cluster_after, new_cluster}
+use Rattle.qq_cluster_model.specs.Cluster.{all_prints, cluster_after, new_cluster}
+use Rattle.qq_cluster_model.specs.declared.printed.Printed.TheVariants.{Of}
 use Rattle.qq_cluster_model.specs.ClusterLaws.{IsTrueOf}
 use Rattle.qq_cluster_model.specs.Laws.{queue_after}
 use Rattle.qq_cluster_model.specs.Queue.{all_said, audit_rows, begin}

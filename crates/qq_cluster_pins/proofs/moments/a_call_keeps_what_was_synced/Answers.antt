@@ -1,10 +1,10 @@
 use Rattle.std.proofs.Common.{refl}
-use Rattle.qq_cluster_pins.proofs.Calls.{given-up, happened-disks, happened-text, served-faults}
+use Rattle.qq_cluster_pins.proofs.Calls.{given-up, happened-disks, happened-outcome, served-faults}
 use Rattle.qq_cluster_pins.proofs.moments.a_call_keeps_what_was_synced.Goals as goal
 
-pub returns-clause-text : goal.returns-clause-text
-returns-clause-text c = λ setup d last done a b before later served.
-    happened-text setup d last done a b before later served.did
+pub returns-clause-outcome : goal.returns-clause-outcome
+returns-clause-outcome c = λ setup d last done a b before later served.
+    happened-outcome setup d last done a b before later served.did
 
 pub returns-clause-faults : goal.returns-clause-faults
 returns-clause-faults c = λ setup d last done a b before later k served.
@@ -16,9 +16,9 @@ returns-clause-disks c = λ setup d last done a b before later k served.
 
 pub returns-clause-happened : goal.returns-clause-happened
 returns-clause-happened c = λ setup d last done a b before later k did.
-    let text = happened-text setup d last done a b before later did in
+    let outcome = happened-outcome setup d last done a b before later did in
     let disks = happened-disks setup d last done a b before later did k in
-    (text.0, text.1, text.2, disks.0, disks.1)
+    (outcome.0, outcome.1, outcome.2, disks.0, disks.1)
 
 pub returns-clause-given_up : goal.returns-clause-given_up
 returns-clause-given_up c = given-up

@@ -1,24 +1,25 @@
 use Rattle.std.proofs.Common.{ap}
+use Rattle.qq_base.proofs.Exits.{at_exit}
 use Rattle.qq_disk.specs.Image.{log_of}
 use Rattle.qq_wal_record.specs.declared.header.Header.{Header}
 use Rattle.qq_node_log.proofs.Batching.{appends-some, write-caused}
 use Rattle.qq_node_log.proofs.Same.{beside-grown, same-newest}
 use Rattle.qq_node_log.proofs.batches.append_some.Goals as goal
 
-pub returns-in-Ok-clause-ok : goal.returns-in-Ok-clause-ok
-returns-in-Ok-clause-ok g c =
-    appends-some g.D.NodeDisk.facts c.encodings_have_lengths.ensures.records c.in-Ok.count
-    c.args.wal.now c.append_batch.new.self c.requires.sound.waiting c.in-Ok.ensures.batch
+pub returns-clause-ok : goal.returns-clause-ok
+returns-clause-ok g c =
+    appends-some g.D.NodeDisk.facts c.encodings_have_lengths.ensures.records c.in_ok-count.count
+    c.args.wal.now c.append_batch.new.self c.requires.sound.waiting c.in_ok-count.ensures.batch
     (ap (λ (h : Header). h.file) c.append_batch.ensures.file.header)
-    (λ told. c.in-Ok.ensures.holds told)
+    (λ told. c.in_ok-count.ensures.holds told)
 
-pub returns-in-Err-clause-cause : goal.returns-in-Err-clause-cause
-returns-in-Err-clause-cause g c =
-    write-caused g.D.NodeDisk.facts.faults c.args.wal.now.stopped c.args.wal.now c.append_batch.new.self c.in-Err.fault
-    c.requires.going c.in-Err.ensures.cause.cause
+pub returns-in_err-count-clause-cause : goal.returns-in_err-count-clause-cause
+returns-in_err-count-clause-cause g c =
+    at_exit _ _ c.from_residual.ensures.1 (write-caused g.D.NodeDisk.facts.faults c.args.wal.now.stopped c.args.wal.now
+    c.append_batch.new.self c.in_err-count.field-0.0 c.requires.going c.in_err-count.ensures.cause.cause)
 
-pub returns-in-Ok-clause-same : goal.returns-in-Ok-clause-same
-returns-in-Ok-clause-same g c = record {
+pub returns-clause-same : goal.returns-clause-same
+returns-clause-same g c = record {
   sound = c.append_batch.ensures.sound;
   queues = c.append_batch.ensures.file.queues;
   ahead = c.append_batch.ensures.ahead;
@@ -31,8 +32,8 @@ returns-in-Ok-clause-same g c = record {
   newest = same-newest c.args.wal.now c.append_batch.new.self c.append_batch.ensures.file;
 }
 
-pub returns-in-Err-clause-same : goal.returns-in-Err-clause-same
-returns-in-Err-clause-same g c = record {
+pub returns-in_err-count-clause-same : goal.returns-in_err-count-clause-same
+returns-in_err-count-clause-same g c = record {
   sound = c.append_batch.ensures.sound;
   queues = c.append_batch.ensures.file.queues;
   ahead = c.append_batch.ensures.ahead;

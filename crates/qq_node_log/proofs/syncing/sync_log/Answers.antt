@@ -1,5 +1,6 @@
 use Rattle.std.proofs.Common.{List, ap, subst}
 use Rattle.std.specs.Global.{Vec}
+use Rattle.qq_base.proofs.Exits.{at_exit}
 use Rattle.qq_base.specs.declared.ids.QueueId.{QueueId}
 use Rattle.qq_disk.specs.Disk.{now}
 use Rattle.qq_disk.specs.Image.{log_of}
@@ -10,8 +11,8 @@ use Rattle.qq_node_log.proofs.Same.{beside-grown, same-newest, same-then}
 use Rattle.qq_node_log.proofs.Stepping.{comes-no_file, comes-nothing, comes-whole, stays-then}
 use Rattle.qq_node_log.proofs.syncing.sync_log.Goals as goal
 
-pub returns-in-Ok-true-clause-come : goal.returns-in-Ok-true-clause-come
-returns-in-Ok-true-clause-come g c = λ told.
+pub returns-then-begun-clause-come : goal.returns-then-begun-clause-come
+returns-then-begun-clause-come g c = λ told.
     let past = g.D.NodeDisk.facts.past in
     let tells = still_tells c.sync_batch.ensures.told told in
     let same = ap (λ (q : Vec QueueId). q.items) c.sync_batch.ensures.file.queues in
@@ -25,10 +26,10 @@ returns-in-Ok-true-clause-come g c = λ told.
     (subst (λ (l : List QueueId). Stays l (past c.sync_batch.new.self.disk) (past c.begin_next.new.wal.disk)) same
     (c.begin_next.ensures.stays tells))
     (subst (λ (l : List QueueId). StillHolds l (now (past c.sync_batch.new.self.disk))
-    (now (past c.begin_next.new.wal.disk))) same (c.in-Ok-true.ensures.holds tells c.in-Ok-true.field-0-test))
+    (now (past c.begin_next.new.wal.disk))) same (c.in_ok-begun.ensures.holds tells c.if-begun.true))
 
-pub returns-in-Ok-false-clause-come : goal.returns-in-Ok-false-clause-come
-returns-in-Ok-false-clause-come g c = λ told.
+pub returns-else-begun-clause-come : goal.returns-else-begun-clause-come
+returns-else-begun-clause-come g c = λ told.
     let past = g.D.NodeDisk.facts.past in
     let same = ap (λ (q : Vec QueueId). q.items) c.sync_batch.ensures.file.queues in
     comes-no_file c.args.wal.now.queues.items (past c.args.wal.now.disk) (past c.sync_batch.new.self.disk)
@@ -46,8 +47,8 @@ returns-in-Err-Disk-clause-come g c = λ told.
     comes-nothing c.args.wal.now.queues.items (g.D.NodeDisk.facts.past c.args.wal.now.disk)
     (g.D.NodeDisk.facts.past c.sync_batch.new.self.disk) (c.sync_batch.ensures.stays told)
 
-pub returns-in-Ok-true-clause-stays : goal.returns-in-Ok-true-clause-stays
-returns-in-Ok-true-clause-stays g c =
+pub returns-then-begun-clause-stays : goal.returns-then-begun-clause-stays
+returns-then-begun-clause-stays g c =
     λ told.
     (let past = g.D.NodeDisk.facts.past in
     let same = ap (λ (q : Vec QueueId). q.items) c.sync_batch.ensures.file.queues in
@@ -56,8 +57,8 @@ returns-in-Ok-true-clause-stays g c =
     (subst (λ (l : List QueueId). Stays l (past c.sync_batch.new.self.disk) (past c.begin_next.new.wal.disk))
     same (c.begin_next.ensures.stays (still_tells c.sync_batch.ensures.told told))))
 
-pub returns-in-Ok-false-clause-stays : goal.returns-in-Ok-false-clause-stays
-returns-in-Ok-false-clause-stays g c =
+pub returns-else-begun-clause-stays : goal.returns-else-begun-clause-stays
+returns-else-begun-clause-stays g c =
     λ told.
     (let past = g.D.NodeDisk.facts.past in
     let same = ap (λ (q : Vec QueueId). q.items) c.sync_batch.ensures.file.queues in
@@ -66,8 +67,8 @@ returns-in-Ok-false-clause-stays g c =
     (subst (λ (l : List QueueId). Stays l (past c.sync_batch.new.self.disk) (past c.begin_next.new.wal.disk))
     same (c.begin_next.ensures.stays (still_tells c.sync_batch.ensures.told told))))
 
-pub returns-in-Err-clause-stays : goal.returns-in-Err-clause-stays
-returns-in-Err-clause-stays g c =
+pub returns-in_err-begun-clause-stays : goal.returns-in_err-begun-clause-stays
+returns-in_err-begun-clause-stays g c =
     λ told.
     (let past = g.D.NodeDisk.facts.past in
     let same = ap (λ (q : Vec QueueId). q.items) c.sync_batch.ensures.file.queues in
@@ -76,8 +77,8 @@ returns-in-Err-clause-stays g c =
     (subst (λ (l : List QueueId). Stays l (past c.sync_batch.new.self.disk) (past c.begin_next.new.wal.disk))
     same (c.begin_next.ensures.stays (still_tells c.sync_batch.ensures.told told))))
 
-pub returns-in-Ok-true-clause-same : goal.returns-in-Ok-true-clause-same
-returns-in-Ok-true-clause-same g c =
+pub returns-then-begun-clause-same : goal.returns-then-begun-clause-same
+returns-then-begun-clause-same g c =
     same-then g.D.NodeDisk.facts c.args.wal.now c.sync_batch.new.self c.begin_next.new.wal (record {
       sound = c.sync_batch.ensures.sound;
       queues = c.sync_batch.ensures.file.queues;
@@ -91,8 +92,8 @@ returns-in-Ok-true-clause-same g c =
       newest = same-newest c.args.wal.now c.sync_batch.new.self c.sync_batch.ensures.file;
     }) c.begin_next.ensures.same
 
-pub returns-in-Ok-false-clause-same : goal.returns-in-Ok-false-clause-same
-returns-in-Ok-false-clause-same g c =
+pub returns-else-begun-clause-same : goal.returns-else-begun-clause-same
+returns-else-begun-clause-same g c =
     same-then g.D.NodeDisk.facts c.args.wal.now c.sync_batch.new.self c.begin_next.new.wal (record {
       sound = c.sync_batch.ensures.sound;
       queues = c.sync_batch.ensures.file.queues;
@@ -106,8 +107,8 @@ returns-in-Ok-false-clause-same g c =
       newest = same-newest c.args.wal.now c.sync_batch.new.self c.sync_batch.ensures.file;
     }) c.begin_next.ensures.same
 
-pub returns-in-Err-clause-same : goal.returns-in-Err-clause-same
-returns-in-Err-clause-same g c =
+pub returns-in_err-begun-clause-same : goal.returns-in_err-begun-clause-same
+returns-in_err-begun-clause-same g c =
     same-then g.D.NodeDisk.facts c.args.wal.now c.sync_batch.new.self c.begin_next.new.wal (record {
       sound = c.sync_batch.ensures.sound;
       queues = c.sync_batch.ensures.file.queues;
@@ -121,7 +122,7 @@ returns-in-Err-clause-same g c =
       newest = same-newest c.args.wal.now c.sync_batch.new.self c.sync_batch.ensures.file;
     }) c.begin_next.ensures.same
 
-pub returns-in-Err-clause-cause : goal.returns-in-Err-clause-cause
-returns-in-Err-clause-cause g c =
-    numbers-last c.args.wal.now c.sync_batch.new.self c.in-Err.memory c.sync_batch.ensures.file.numbers
-    c.in-Err.ensures.cause
+pub returns-in_err-begun-clause-cause : goal.returns-in_err-begun-clause-cause
+returns-in_err-begun-clause-cause g c =
+    at_exit _ _ c.from_residual.ensures.1 (numbers-last c.args.wal.now c.sync_batch.new.self c.in_err-begun.field-0.0
+    c.sync_batch.ensures.file.numbers c.in_err-begun.ensures.cause)

@@ -10,6 +10,7 @@ use Rattle.qq_queue.proofs.audit.push_rows.Given as goal
 -- the machine has applied the first entries, and the rows of the others are left to add
 abbrev pub invariant-entries : goal.invariant-entries
 invariant-entries l = record {
+  place : l.index ≡ l.entry-index;
   count : queue_applied l.machine ≡ l.index;
   stands : (s : State) → queue_stands s l.fn.machine → queue_stands (state_after s (take l.entry-index l.entries)) l.machine;
   said : (s : State) → queue_stands s l.fn.machine

@@ -1,8 +1,12 @@
 use Rattle.std.proofs.Common.{◌≡◌, ◌++◌, ℕ, List, drop, length, sym, ap, ◌∙◌, append-nil, arith}
 use Rattle.qq_entry.specs.declared.audit.Effect.{Effect}
 use Rattle.qq_queue.specs.Fetching.{fetched_all}
-use Rattle.qq_queue.proofs.Asking.{goes-on, none-left}
+use Rattle.qq_queue.proofs.Asking.{goes-on, none-left, one-there}
 use Rattle.qq_queue.proofs.fetching.fetch_all.Goals as goal
+
+pub unreachable-requires : goal.unreachable-requires
+unreachable-requires c =
+    one-there c.args.consumers.now c.places.place (omega (arith, c.count-count.ensures)) c.in_default.ensures
 
 pub places-preserved : goal.places-preserved
 places-preserved c =

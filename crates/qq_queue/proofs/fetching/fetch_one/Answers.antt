@@ -15,6 +15,6 @@ returns-then-not-own-clause-ok c =
 pub returns-clause-ok : goal.returns-clause-ok
 returns-clause-ok c =
     c.in_ok-push_all.ensures.ok
-    ∙ ap (λ (l : List Delivery). c.args.effects.now.items ++ map (Deliver c.args.gap.consumer) l) c.in-Ok.ensures.ok
+    ∙ ap (λ (l : List Delivery). c.args.effects.now.items ++ map (Deliver c.args.gap.consumer) l) c.in_ok-found.ensures.ok
     ∙ ap (λ (l : List Effect). c.args.effects.now.items ++ l)
     (sym (own-fetched c.args.machine.now c.args.session c.args.gap (sym c.eq-own.ensures ∙ c.if-not-own.false)))

@@ -18,13 +18,13 @@ effects-preserved c =
     ap (λ (e : Effect). e ∷ rest) c.effect-item.is
     ∙ sym (drop_more c.args.effects.now c.effects.effect-index effect (omega (arith, c.effects-test.true))) in
     record {
-      came = ap (come_all own rest) c.in_default.ensures.came
+      came = ap (come_all own rest) c.in_ok-deliver.ensures.came
           ∙ ap (λ (l : List Effect). come_all own l old) here
           ∙ c.effects.invariant.came;
-      handed = ap (λ (l : List Handed). l ++ hand_all own rest c.deliver.new.consumers) c.in_default.ensures.handed
+      handed = ap (λ (l : List Handed). l ++ hand_all own rest c.deliver.new.consumers) c.in_ok-deliver.ensures.handed
           ∙ append_assoc c.effects.untold (hands own effect old) (hand_all own rest c.deliver.new.consumers)
           ∙ ap (λ (l : List Received). c.effects.untold ++ (hands own effect old ++ hand_all own rest l))
-          c.in_default.ensures.came
+          c.in_ok-deliver.ensures.came
           ∙ ap (λ (l : List Effect). c.effects.untold ++ hand_all own l old) here
           ∙ c.effects.invariant.handed;
     }

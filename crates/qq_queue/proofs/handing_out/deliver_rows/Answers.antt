@@ -22,9 +22,9 @@ rows-preserved c =
     ap (λ (r : AppliedRow). r ∷ rest) c.applied-item.is
     ∙ sym (drop_more c.args.rows.now c.rows.applied-index row (omega (arith, c.rows-test.true))) in
     let came : new ≡ come_all own row.effects old =
-    c.in_default.ensures.came ∙ ap (λ (l : List Effect). come_all own l old) c.as_slice-effects.ensures in
+    c.in_ok-deliver_each.ensures.came ∙ ap (λ (l : List Effect). come_all own l old) c.as_slice-effects.ensures in
     let handed : c.deliver_each.new.untold ≡ c.rows.untold ++ hand_all own row.effects old =
-    c.in_default.ensures.handed
+    c.in_ok-deliver_each.ensures.handed
     ∙ ap (λ (l : List Effect). c.rows.untold ++ hand_all own l old) c.as_slice-effects.ensures in
     record {
       came = ap (come_all own (effects_in rest)) came ∙ sym (come-append own row.effects (effects_in rest) old)

@@ -2,8 +2,8 @@ use Rattle.qq_model.specs.State.{empty_queue}
 use Rattle.qq_queue.proofs.Members.{HasLaws, happened}
 use Rattle.qq_queue.proofs.moves.happen.Goals as goal
 
-pub returns-in-Ok-clause-ok : goal.returns-in-Ok-clause-ok
-returns-in-Ok-clause-ok c = λ args g it.
+pub returns-clause-ok : goal.returns-clause-ok
+returns-clause-ok c = λ args g it.
     let laws : HasLaws = record {
       servers = λ args. c.each_row_is_of_the_audit.ensures.servers (empty_queue args);
       known = c.what_is_committed_stays_in_the_audit.ensures.known;
@@ -14,12 +14,12 @@ returns-in-Ok-clause-ok c = λ args g it.
       fit = c.a_message_always_fits.ensures;
       reached = c.events_reach_groups.ensures.later;
     } in
-    let left = happened laws args g c.args.event c.args.group.now c.step.new.self c.in-Ok.shown.rows.items
-    c.requires.sound it c.in-Ok.ensures.ok c.in-Ok.ensures.rows c.step.ensures.others c.step.ensures.returned in
+    let left = happened laws args g c.args.event c.args.group.now c.step.new.self c.in_ok-shown.shown.rows.items
+    c.requires.sound it c.in_ok-shown.ensures.ok c.in_ok-shown.ensures.rows c.step.ensures.others c.step.ensures.returned in
     (left.group, left.down)
 
-pub returns-in-Ok-clause-tells : goal.returns-in-Ok-clause-tells
-returns-in-Ok-clause-tells c = λ args g it.
+pub returns-clause-tells : goal.returns-clause-tells
+returns-clause-tells c = λ args g it.
     let laws : HasLaws = record {
       servers = λ args. c.each_row_is_of_the_audit.ensures.servers (empty_queue args);
       known = c.what_is_committed_stays_in_the_audit.ensures.known;
@@ -30,5 +30,5 @@ returns-in-Ok-clause-tells c = λ args g it.
       fit = c.a_message_always_fits.ensures;
       reached = c.events_reach_groups.ensures.later;
     } in
-    (happened laws args g c.args.event c.args.group.now c.step.new.self c.in-Ok.shown.rows.items
-    c.requires.sound it c.in-Ok.ensures.ok c.in-Ok.ensures.rows c.step.ensures.others c.step.ensures.returned).told
+    (happened laws args g c.args.event c.args.group.now c.step.new.self c.in_ok-shown.shown.rows.items
+    c.requires.sound it c.in_ok-shown.ensures.ok c.in_ok-shown.ensures.rows c.step.ensures.others c.step.ensures.returned).told

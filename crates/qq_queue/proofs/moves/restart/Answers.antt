@@ -22,17 +22,17 @@ returns-clause-ok c = λ g it unknown.
     (record {
       member = c.requires.member;
       down = c.requires.down;
-      found = c.in_default.ensures.found;
+      found = c.in_ok-restart.ensures.found;
       stood = stood;
-      restarts = c.in_default.ensures.ok;
-      started = c.in_default.ensures.started;
+      restarts = c.in_ok-restart.ensures.ok;
+      started = c.in_ok-restart.ensures.started;
       others = c.restart.ensures.others;
-      returned = c.in_default.ensures.returned;
+      returned = c.in_ok-restart.ensures.returned;
     }) it
     (c.members_apply_the_audit.ensures.restarted (empty_queue c.args.args.now) c.args.node.0 c.new-machine.result
-    c.args.group.now c.restart.new.self stood c.in_default.ensures.started c.restart.ensures.others
+    c.args.group.now c.restart.new.self stood c.in_ok-restart.ensures.started c.restart.ensures.others
     c.restart.ensures.audit it.audited)
     (c.events_reach_groups.ensures.later g (Restart c.args.node.0 c.args.log.op ∷ []) it.reached) unknown
 
 pub returns-clause-up : goal.returns-clause-up
-returns-clause-up c = started-up c.new-machine.result _ c.in_default.ensures.started
+returns-clause-up c = started-up c.new-machine.result _ c.in_ok-restart.ensures.started

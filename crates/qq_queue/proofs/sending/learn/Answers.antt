@@ -1,7 +1,6 @@
-use Rattle.std.proofs.Common.{sym, ap, ◌∙◌}
+use Rattle.std.proofs.Common.{sym, ◌∙◌}
 use Rattle.std.proofs.lemmas.Bool.{cond-false, cond-true}
 use Rattle.qq_base.specs.Ids.{client}
-use Rattle.qq_base.specs.declared.ids.SessionId.{SessionId}
 use Rattle.qq_consuming.specs.Consumers.{know_by}
 use Rattle.qq_session.specs.Clients.{may_hand}
 use Rattle.qq_queue.specs.Sessions.{numbers_of}
@@ -22,7 +21,6 @@ returns-then-not-room-clause-ok c =
 pub returns-clause-ok : goal.returns-clause-ok
 returns-clause-ok c =
     c.in_ok-know_by.ensures.ok
-    ∙ ap (λ (s : SessionId). know_by s c.args.body.now c.args.consumers.now) c.client.ensures
     ∙ sym (cond-true (may_hand (numbers_of c.args.publishers.now c.args.session))
     (know_by (client c.args.session) c.args.body.now c.args.consumers.now) c.args.consumers.now
     (sym c.may_hand-room.ensures ∙ c.if-not-room.false))

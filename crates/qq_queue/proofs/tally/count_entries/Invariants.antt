@@ -8,6 +8,7 @@ use Rattle.qq_queue.proofs.tally.count_entries.Given as goal
 -- the machine has applied the first entries, and the rows of the others are left to count
 abbrev pub invariant-entries : goal.invariant-entries
 invariant-entries l = record {
+  place : l.index ≡ l.entry-index;
   count : queue_applied l.machine ≡ l.index;
   stands : (s : State) → queue_stands s l.fn.machine
       → queue_stands (state_after s (take l.entry-index l.entries)) l.machine;

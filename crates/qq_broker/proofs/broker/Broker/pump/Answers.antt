@@ -23,9 +23,9 @@ pub returns-in-Ok-clause-ok : goal.returns-in-Ok-clause-ok
 returns-in-Ok-clause-ok g c = λ given run so.
     (let disk = g.D.NodeDisk in
     has-pumped given disk.facts run c.args.self.now
-    (record c.args.self.now { nodes = c.pump-pumped.new.self; text = c.give_back.new.text }) c.args.takers.now
+    (record c.args.self.now { nodes = c.pump-pumped.new.self; printed = c.give_back.new.printed }) c.args.takers.now
     c.give_back.new.takers c.lend-told.result c.pump-pumped.new.told c.pump_outcome.result c.is_idle-idle.result so refl refl
-    c.lend-told.ensures c.give_back.ensures.text c.give_back.ensures.takers c.in-Ok.ensures.ok c.pump_outcome.ensures
+    c.lend-told.ensures c.give_back.ensures.printed c.give_back.ensures.takers c.in-Ok.ensures.ok c.pump_outcome.ensures
     c.is_idle-idle.ensures)
 
 pub returns-in-Err-clause-cause : goal.returns-in-Err-clause-cause

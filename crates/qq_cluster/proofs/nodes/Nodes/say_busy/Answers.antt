@@ -6,6 +6,6 @@ use Rattle.qq_cluster.proofs.nodes.Nodes.say_busy.Goals as goal
 
 pub returns-clause-ok : goal.returns-clause-ok
 returns-clause-ok g c =
-    on_ok_weaker c.write.result
-    (λ said. served-said SaysBusy c.args.self.now c.args.told.now c.write.new.self refl
-    (λ d place. refl) (λ d. refl) (λ d. refl) (λ setup d. said)) c.write.ensures.ok
+    on_ok_weaker c.print.result
+    (λ said. served-said SaysBusy c.args.self.now c.args.told.now c.print.new.self refl
+    (λ d place. refl) (λ d. refl) (λ d. refl) (λ setup d. said)) c.print.ensures.ok

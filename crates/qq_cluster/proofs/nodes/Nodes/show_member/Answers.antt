@@ -1,10 +1,9 @@
-use Rattle.std.proofs.Common.{◌≡◌, ℕ, List, ◌-◌, ◌++◌, ◌∙◌, ap, sym}
+use Rattle.std.proofs.Common.{◌-◌, ◌∙◌, ap, sym}
 use Rattle.std.proofs.lemmas.Result.{on_ok_weaker}
-use Rattle.qq_cluster_model.specs.Texts.{state_line}
-use Rattle.qq_cluster.specs.Showing.{has_queue, with_line}
+use Rattle.qq_cluster.specs.Showing.{has_queue}
 use Rattle.qq_cluster.proofs.Items.{item-here}
 use Rattle.qq_cluster.proofs.LineRules.{queue-index}
-use Rattle.qq_cluster.proofs.Shown.{line-at, none-at}
+use Rattle.qq_cluster.proofs.Shown.{none-at, state-of}
 use Rattle.qq_cluster.proofs.nodes.Nodes.show_member.Goals as goal
 
 pub returns-then-not-here-clause-ok : goal.returns-then-not-here-clause-ok
@@ -13,26 +12,19 @@ returns-then-not-here-clause-ok g c =
     (item-here c.args.self.now.nodes.items c.args.at _ c.requires.place c.index.ensures)
     (ap (has_queue c.args.queue.0) (sym c.deref.ensures.value) ∙ sym c.has_queue-here.ensures ∙ c.if-not-here.true)
 
-pub state_text-requires : goal.state_text-requires
-state_text-requires g c =
+pub member-member-requires : goal.member-member-requires
+member-member-requires g c =
     (c.requires.serve.3.queues (c.args.queue.0 - 1) c.index-2.result.now
     (item-here c.args.self.now.queues.items (c.args.queue.0 - 1) _
     (queue-index c.args.self.now c.args.queue c.requires.queue) c.index-2.ensures)).sound
 
 pub returns-clause-ok : goal.returns-clause-ok
 returns-clause-ok g c =
-    on_ok_weaker c.write.result
-    (λ (said : c.write.new.self ≡ with_line c.as_slice.result.now c.args.told.now).
-    line-at c.args.self.now c.args.queue c.node_id-node.result c.args.at c.index-2.result.now c.index.result.now
-    c.args.told.now c.write.new.self c.requires.queue
+    on_ok_weaker c.print.result
+    (λ said. state-of c.args.self.now c.args.queue c.node_id-node.result c.args.at c.index-2.result.now
+    c.index.result.now c.member-member.result c.args.told.now c.print.new.self c.requires.queue
     (item-here c.args.self.now.queues.items (c.args.queue.0 - 1) _
     (queue-index c.args.self.now c.args.queue c.requires.queue) c.index-2.ensures)
     (item-here c.args.self.now.nodes.items c.args.at _ c.requires.place c.index.ensures)
     (ap (has_queue c.args.queue.0) (sym c.deref.ensures.value) ∙ sym c.has_queue-here.ensures ∙ c.if-not-here.false)
-    c.node_id-node.ensures
-    (λ sessions q st. said
-    ∙ ap (λ (l : List ℕ). with_line l c.args.told.now)
-    (c.as_slice.ensures.value ∙ c.in_ok-state_text.ensures.ok sessions q st
-    ∙ ap (λ (l : List ℕ). l
-    ++ state_line c.index-2.result.now.name c.node_id-node.result.0 (q.group.seat c.node_id-node.result.0).server)
-    c.new-line.ensures.items))) c.write.ensures.ok
+    c.node_id-node.ensures c.member-member.ensures said) c.print.ensures.ok

@@ -8,7 +8,7 @@ use Rattle.qq_cluster.proofs.told.Told.ask.Goals as goal
 
 pub returns-in_default-clause-ok : goal.returns-in_default-clause-ok
 returns-in_default-clause-ok g c =
-    let with : Takers → Outcome = λ all. record { text = c.self.inside.text.items; takers = all } in
+    let with : Takers → Outcome = λ all. record { printed = c.self.inside.printed.items; takers = all } in
     let offered =
     subst (λ (o : Option Verdict). IsOffered c.args.number c.args.delivery.now o c.self.inside.desk c.offer.new.self)
     c.in_default.is c.in_ok-verdict.ensures.ok in

@@ -1,6 +1,7 @@
 use Rattle.std.proofs.Common.{◌≡◌, length, Some, refl, ap, subst, sym, ◌∙◌}
 use Rattle.std.specs.Prelude.{slice_get, is_some}
 use Rattle.std.proofs.lemmas.Option.{slice_get_read}
+use Rattle.qq_base.proofs.Exits.{at_exit}
 use Rattle.qq_group.specs.Group.{IsReturned, IsServed, server_by}
 use Rattle.qq_group.specs.Input.{fed_outcome, IsInputCaused, MayReach}
 use Rattle.qq_group.proofs.Seats.{left-at, returned-at, sound-put}
@@ -35,8 +36,8 @@ feed-requires-clause-left g c =
     slice_get_read seats (length seats) k c.in-Some.seat.now refl c.requires.there c.in-Some.ensures.value in
     left-at g.L.LogView.log seats k c.in-Some.seat.now there c.requires.sound.left
 
-pub returns-in-Ok-clause-ok : goal.returns-in-Ok-clause-ok
-returns-in-Ok-clause-ok g c = record {
+pub returns-clause-ok : goal.returns-clause-ok
+returns-clause-ok g c = record {
   seat = c.in-Some.seat.now;
   now = c.feed.new.self;
   changes = record {
@@ -46,42 +47,44 @@ returns-in-Ok-clause-ok g c = record {
     queue = refl;
     nodes = refl;
   };
-  fed = c.in-Ok.ensures.ok;
+  fed = c.in_ok-shown.ensures.ok;
 }
 
-pub returns-in-Err-clause-err : goal.returns-in-Err-clause-err
-returns-in-Err-clause-err g c = record {
-  seat = c.in-Some.seat.now;
-  now = c.feed.new.self;
-  changes = record {
-    there = slice_get_read c.args.self.now.seats.items (length c.args.self.now.seats.items) c.args.node.0 c.in-Some.seat.now refl
-        c.requires.there c.in-Some.ensures.value;
-    seats = refl;
-    queue = refl;
-    nodes = refl;
-  };
-  dropped = c.in-Err.ensures.err;
-  bag = c.in-Err.ensures.bag_err;
-  audit = c.in-Err.ensures.audit_err;
-}
+pub returns-in_err-shown-clause-err : goal.returns-in_err-shown-clause-err
+returns-in_err-shown-clause-err g c =
+    at_exit _ _ c.from_residual.ensures.1 (record {
+      seat = c.in-Some.seat.now;
+      now = c.feed.new.self;
+      changes = record {
+        there = slice_get_read c.args.self.now.seats.items (length c.args.self.now.seats.items) c.args.node.0
+            c.in-Some.seat.now refl c.requires.there c.in-Some.ensures.value;
+        seats = refl;
+        queue = refl;
+        nodes = refl;
+      };
+      dropped = c.in_err-shown.ensures.err;
+      bag = c.in_err-shown.ensures.bag_err;
+      audit = c.in_err-shown.ensures.audit_err;
+    })
 
-pub returns-in-Ok-clause-outcome : goal.returns-in-Ok-clause-outcome
-returns-in-Ok-clause-outcome g c =
-    c.in-Ok.ensures.outcome
+pub returns-clause-outcome : goal.returns-clause-outcome
+returns-clause-outcome g c =
+    c.in_ok-shown.ensures.outcome
     ∙ ap (λ o. fed_outcome g.L.LogView.log c.args.input (server_by o)) (sym (
     slice_get_read c.args.self.now.seats.items (length c.args.self.now.seats.items) c.args.node.0 c.in-Some.seat.now refl
     c.requires.there c.in-Some.ensures.value))
 
-pub returns-in-Err-clause-cause : goal.returns-in-Err-clause-cause
-returns-in-Err-clause-cause g c =
-    subst (λ o. IsInputCaused g.Q.Queue.stands g.Q.Queue.step g.Q.Queue.passes_end g.L.LogView.log c.args.input
-    c.args.self.now.bag (server_by o) c.in-Err.cause) (sym (
+pub returns-in_err-shown-clause-cause : goal.returns-in_err-shown-clause-cause
+returns-in_err-shown-clause-cause g c =
+    at_exit _ _ c.from_residual.ensures.1
+    (subst (λ o. IsInputCaused g.Q.Queue.stands g.Q.Queue.step g.Q.Queue.passes_end g.L.LogView.log c.args.input
+    c.args.self.now.bag (server_by o) c.in_err-shown.field-0.0) (sym (
     slice_get_read c.args.self.now.seats.items (length c.args.self.now.seats.items) c.args.node.0 c.in-Some.seat.now refl
     c.requires.there c.in-Some.ensures.value))
-    c.in-Err.ensures.cause
+    c.in_err-shown.ensures.cause)
 
-pub returns-in-Ok-clause-sound : goal.returns-in-Ok-clause-sound
-returns-in-Ok-clause-sound g c =
+pub returns-clause-sound : goal.returns-clause-sound
+returns-clause-sound g c =
     let seats = c.args.self.now.seats.items in
     let k = c.args.node.0 in
     let there : slice_get seats k ≡ Some c.in-Some.seat.now =
@@ -92,8 +95,8 @@ returns-in-Ok-clause-sound g c =
     (returned-at seats k c.in-Some.seat.now there c.requires.sound.returned)) c.feed.ensures.left refl
     c.feed.ensures.bag refl c.requires.sound
 
-pub returns-in-Err-clause-sound : goal.returns-in-Err-clause-sound
-returns-in-Err-clause-sound g c =
+pub returns-in_err-shown-clause-sound : goal.returns-in_err-shown-clause-sound
+returns-in_err-shown-clause-sound g c =
     let seats = c.args.self.now.seats.items in
     let k = c.args.node.0 in
     let there : slice_get seats k ≡ Some c.in-Some.seat.now =

@@ -1,23 +1,26 @@
 use Rattle.std.proofs.Common.{◌+◌, ◌-◌, ◌^◌, ap, arith, inl, inr, min, refl, sym, ◌∙◌}
 use Rattle.std.proofs.lemmas.List.{drop_all}
+use Rattle.std.proofs.lemmas.Result.{err_from_is_err_and}
 use Rattle.qq_group.specs.Handing.{count_by}
 use Rattle.qq_group.proofs.Taking.{ops-again}
 use Rattle.qq_group.proofs.seat.Seat.take_ops.Goals as goal
 
-pub returns-in-Err-clause-out : goal.returns-in-Err-clause-out
-returns-in-Err-clause-out g c = record {
-  was = c.in-Some.server;
-  now = c.put_back.new.server;
-  up = c.in-Some.is;
-  seat = refl;
-  count = inr (refl, refl);
-  same = c.put_back.ensures.same;
-  there = omega arith;
-  rest = c.in-Err.ensures.err;
-}
+pub returns-in_err-put_back-clause-out : goal.returns-in_err-put_back-clause-out
+returns-in_err-put_back-clause-out g c =
+    let p = err_from_is_err_and c.from_residual.result c.from_residual.ensures.1 in
+    rw p.1 (record {
+      was = c.in-Some.server;
+      now = c.put_back.new.server;
+      up = c.in-Some.is;
+      seat = refl;
+      count = inr (refl, refl);
+      same = c.put_back.ensures.same;
+      there = omega arith;
+      rest = c.in_err-put_back.ensures.err;
+    })
 
-pub returns-in-Ok-clause-out : goal.returns-in-Ok-clause-out
-returns-in-Ok-clause-out g c =
+pub returns-clause-out : goal.returns-clause-out
+returns-clause-out g c =
     let n = ap count_by c.in-Some.is in
     record {
       was = c.in-Some.server;

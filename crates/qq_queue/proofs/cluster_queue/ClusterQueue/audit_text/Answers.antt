@@ -6,5 +6,5 @@ use Rattle.qq_queue.proofs.cluster_queue.ClusterQueue.audit_text.Goals as goal
 
 pub push_audit-told-requires-clause-stands : goal.push_audit-told-requires-clause-stands
 push_audit-told-requires-clause-stands c =
-    subst (λ (args : QueueArgs). queue_stands (empty_queue args) c.new-machine.result) c.in-Ok.ensures.ok
+    subst (λ (args : QueueArgs). queue_stands (empty_queue args) c.new-machine.result) c.in_ok-args.ensures.ok
     c.new-machine.ensures

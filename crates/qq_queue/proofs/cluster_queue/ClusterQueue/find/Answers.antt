@@ -10,7 +10,7 @@ use Rattle.qq_queue.proofs.cluster_queue.ClusterQueue.find.Goals as goal
 
 pub returns-clause-ok : goal.returns-clause-ok
 returns-clause-ok c = λ sessions q st unknown.
-    let found = c.in_default.ensures.ok q.group st.group unknown in
+    let found = c.in_ok-restart.ensures.ok q.group st.group unknown in
     find-stands sessions c.args.self.now
     (record c.args.self.now { group = c.restart.new.group; synced = c.set.new.self; votes = c.set-2.new.self }) q
     c.args.node.0 c.args.log.op st found.0 found.1 c.restart.ensures.others refl refl refl refl refl
@@ -25,7 +25,7 @@ returns-clause-begins c =
     (record {
       member = c.requires.member;
       down = c.requires.down;
-      restarts = c.in_default.ensures.restarts;
+      restarts = c.in_ok-restart.ensures.restarts;
       others = c.restart.ensures.others;
       votes = subst (λ (vote : Option NodeId). (i : ℕ) → found_vote c.set-2.new.self.each i
           ≡ put c.args.node.0 vote (found_vote c.args.self.now.votes.each) i)

@@ -9,7 +9,7 @@ pub ops-preserved : goal.ops-preserved
 ops-preserved c =
     handing-more c.args.node.0 c.waiting-count.result c.ops.taken c.args.self.now c.ops.self c.take_op.new.self
     c.args.ops.now.items c.ops.ops.items c.take_op.new.ops.items (omega arith) c.ops.invariant c.take_op.ensures.sound
-    c.take_op.ensures.same c.take_op.ensures.rest c.in_default.ensures.may c.in_default.ensures.ok
+    c.take_op.ensures.same c.take_op.ensures.rest c.in_ok-take_op.ensures.may c.in_ok-take_op.ensures.ok
 
 pub returns-clause-ok : goal.returns-clause-ok
 returns-clause-ok c =

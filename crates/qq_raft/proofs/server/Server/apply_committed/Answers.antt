@@ -1,6 +1,7 @@
 use Rattle.std.proofs.Common.{◌≡◌, ◌+◌, ◌-◌, length, take, refl, sym, ap, subst, ◌∙◌, arith}
 use Rattle.std.proofs.lemmas.List.{length-drop, length-take}
 use Rattle.qq_base.specs.declared.memory.TheConstants.{NUMBER_END}
+use Rattle.qq_base.proofs.Exits.{at_exit}
 use Rattle.qq_raft_msg.specs.declared.state.MemberState.{MemberState}
 use Rattle.qq_raft.proofs.Entries.{AppliesFirst, first-none, first-more, first-all, first-cause}
 use Rattle.qq_raft.proofs.server.Server.apply_committed.Goals as goal
@@ -32,15 +33,15 @@ entries-preserved g c =
     let commit = ap (λ (m : MemberState). m.commit.0) c.state-state.ensures in
     let more : c.entries.counter + 1 - first.applied ≡ n + 1 = omega (arith, inv.from) in
     record {
-      sound = c.in_default.ensures.sound;
+      sound = c.in_ok-apply_next.ensures.sound;
       raft = c.apply_next.ensures.raft ∙ inv.raft;
       from = omega (arith, inv.from);
-      applied = c.in_default.ensures.applied ∙ ap (λ k. k + 1) inv.applied;
+      applied = c.in_ok-apply_next.ensures.applied ∙ ap (λ k. k + 1) inv.applied;
       first = subst (λ k. AppliesFirst g.Q.Queue.stands log g.Q.Queue.step k first c.apply_next.new.self) (sym more)
           (first-more g.Q.Queue.stands log g.Q.Queue.step n first now c.apply_next.new.self inv.raft
           (omega (arith, inv.applied, inv.from))
           (omega (arith, inv.from, c.entries-test.true, c.min-end.ensures, commit))
-          (omega (arith, inv.from, c.entries-test.true, c.min-end.ensures, last)) inv.first c.in_default.ensures.ok);
+          (omega (arith, inv.from, c.entries-test.true, c.min-end.ensures, last)) inv.first c.in_ok-apply_next.ensures.ok);
     }
 
 pub returns-clause-ok : goal.returns-clause-ok
@@ -56,15 +57,15 @@ returns-clause-ok g c =
     first-all g.Q.Queue.stands log g.Q.Queue.step (c.entries.counter - first.applied) first c.entries.self
     (omega (arith, inv.from, c.entries-test.false, c.min-end.ensures, commit, last, d, t)) inv.first
 
-pub returns-in-Err-clause-cause : goal.returns-in-Err-clause-cause
-returns-in-Err-clause-cause g c =
+pub returns-in_err-apply_next-clause-cause : goal.returns-in_err-apply_next-clause-cause
+returns-in_err-apply_next-clause-cause g c =
     let log = g.L.LogView.log in
     let first = c.args.self.now in
     let inv = c.entries.invariant in
     let n = c.entries.counter - first.applied in
     let last = ap (λ (m : MemberState). m.last.0) c.state-state.ensures in
     let commit = ap (λ (m : MemberState). m.commit.0) c.state-state.ensures in
-    first-cause g.Q.Queue.stands log g.Q.Queue.step g.Q.Queue.passes_end n NUMBER_END first c.entries.self c.in-Err.cause
+    at_exit _ _ c.from_residual.ensures.1 (first-cause g.Q.Queue.stands log g.Q.Queue.step g.Q.Queue.passes_end n NUMBER_END first c.entries.self c.in_err-apply_next.field-0.0
     inv.raft (omega (arith, inv.applied, inv.from))
     (omega (arith, inv.from, c.entries-test.true, c.min-end.ensures, commit))
-    (omega (arith, inv.from, c.entries-test.true, c.min-end.ensures, last)) inv.first c.in-Err.ensures.cause
+    (omega (arith, inv.from, c.entries-test.true, c.min-end.ensures, last)) inv.first c.in_err-apply_next.ensures.cause)

@@ -2,6 +2,7 @@ use Rattle.std.proofs.Common.{◌≡◌, ◌+◌, refl, sym, subst, ◌∙◌}
 use Rattle.std.specs.Prelude.{Some, None}
 use Rattle.qq_base.specs.Causes.{SpentOnlyWhere}
 use Rattle.qq_base.specs.declared.memory.TheConstants.{NUMBER_END}
+use Rattle.qq_base.proofs.Exits.{at_exit}
 use Rattle.qq_entry.specs.declared.command.Entry.{Entry}
 use Rattle.qq_log.specs.Log.{entry_at}
 use Rattle.qq_raft_core.proofs.Entries.{entry-known, slice_get-none-past}
@@ -45,13 +46,14 @@ returns-clause-ok g c = λ e there queue f.
     let step = g.Q.Queue.step in
     let next = subst (λ b. IsNext stands (step queue (record { 0 = old.applied + 1 }) entry)
     (record { 0 = old.applied + 1 }) entry b old.rows.items new.rows.items new.machine) c.shows-shown.ensures
-    (c.in_default-apply_entry.ensures.ok queue f) in
+    (c.in_ok-apply_entry.ensures.ok queue f) in
     found-same own.entries old.applied entry e found there
     (λ (x : Entry). StandsFor stands log (apply_next step x (state_of log queue old)) new)
     (applied-one stands log step queue old new entry refl refl next)
 
-pub returns-in-Err-clause-cause : goal.returns-in-Err-clause-cause
-returns-in-Err-clause-cause g c = λ e there queue f.
+pub returns-in_err-apply_entry-clause-cause : goal.returns-in_err-apply_entry-clause-cause
+returns-in_err-apply_entry-clause-cause g c =
+    at_exit _ _ c.from_residual.ensures.1 (λ e there queue f.
     let log = g.L.LogView.log in
     let old = c.args.self.now in
     let own = log old.raft.log in
@@ -59,5 +61,5 @@ returns-in-Err-clause-cause g c = λ e there queue f.
     let some = subst (λ l. entry_at (log l) (old.applied + 1) ≡ Some entry) c.log.ensures c.in-Some.ensures.some in
     let found = sym (entry-known own old.applied c.requires.sound.raft.whole) ∙ some in
     found-same own.entries old.applied entry e found there
-    (λ (x : Entry). SpentOnlyWhere c.in-Err.cause NUMBER_END
-    (g.Q.Queue.passes_end queue (record { 0 = old.applied + 1 }) x)) (c.in-Err.ensures.cause queue f)
+    (λ (x : Entry). SpentOnlyWhere c.in_err-apply_entry.field-0.0 NUMBER_END
+    (g.Q.Queue.passes_end queue (record { 0 = old.applied + 1 }) x)) (c.in_err-apply_entry.ensures.cause queue f))
