@@ -76,8 +76,9 @@ pub fn what_is_found_stands_there()
     ensures frame { (begun : Bool) (max : ℕ) (bytes : List ℕ) (f : Frame) (rest : List ℕ)
         → IsRead begun max bytes f rest
         → (n : ℕ) × ((found_at begun max bytes ≡ Ok (Some (f, n))) × (drop n bytes ≡ rest)) }
-    ensures frame_alone { (begun : Bool) (max : ℕ) (bytes : List ℕ) (f : Frame) (n : ℕ) → AreBytes bytes
-        → found_at begun max bytes ≡ Ok (Some (f, n)) → IsRead begun max bytes f (drop n bytes) }
+    ensures frame_alone { (begun : Bool) (max : ℕ) (bytes : List ℕ) (f : Frame) (n : ℕ)
+        → AreBytes bytes → found_at begun max bytes ≡ Ok (Some (f, n))
+        → IsRead begun max bytes f (drop n bytes) }
     ensures fault { (begun : Bool) (max : ℕ) (bytes : List ℕ) (e : WireFault) → AreBytes bytes
         → HasFault begun max bytes e → found_at begun max bytes ≡ Err e }
     ensures fault_alone { (begun : Bool) (max : ℕ) (bytes : List ℕ) (e : WireFault) → AreBytes bytes

@@ -118,7 +118,8 @@ pub fn basic_methods_have_these_bytes()
 {}
 /// A law: what stands at the front of these bytes, where frames have at most 16 bytes.
 pub fn worked_frames_are_found()
-    ensures protocol { found_at false 16 (codes "AMQP" ++ 0 ∷ 0 ∷ 9 ∷ 1 ∷ 7 ∷ []) ≡ Ok (Some (Protocol, 8)) }
+    ensures protocol { found_at false 16 (codes "AMQP" ++ 0 ∷ 0 ∷ 9 ∷ 1 ∷ 7 ∷ [])
+        ≡ Ok (Some (Protocol, 8)) }
     ensures heartbeat { found_at true 16 (8 ∷ 0 ∷ 0 ∷ 0 ∷ 0 ∷ 0 ∷ 0 ∷ 206 ∷ 7 ∷ [])
         ≡ Ok (Some (Heartbeat 0, 8)) }
     ensures body { found_at true 16 (3 ∷ 0 ∷ 2 ∷ 0 ∷ 0 ∷ 0 ∷ 1 ∷ 65 ∷ 206 ∷ [])
@@ -143,18 +144,20 @@ pub fn worked_faults_are_found()
         ≡ Err (BadMethod 60 110) }
     ensures field { found_at true 16 (8 ∷ 0 ∷ 0 ∷ 0 ∷ 0 ∷ 0 ∷ 1 ∷ 0 ∷ 206 ∷ []) ≡ Err BadField }
     // A method is read exactly.
-    ensures left_over { found_at true 16 (1 ∷ 0 ∷ 0 ∷ 0 ∷ 0 ∷ 0 ∷ 5 ∷ 0 ∷ 85 ∷ 0 ∷ 11 ∷ 0 ∷ 206 ∷ [])
-        ≡ Err BadField }
+    ensures left_over { found_at true 16
+        (1 ∷ 0 ∷ 0 ∷ 0 ∷ 0 ∷ 0 ∷ 5 ∷ 0 ∷ 85 ∷ 0 ∷ 11 ∷ 0 ∷ 206 ∷ []) ≡ Err BadField }
     // Below 8 bytes none but an empty payload is allowed.
     ensures small { found_at true 7 (3 ∷ 0 ∷ 0 ∷ 0 ∷ 0 ∷ 0 ∷ 1 ∷ 0 ∷ 206 ∷ []) ≡ Err TooLong }
 {}
 
 /// A law: what a reader hands out of bytes that are cut within its frames, where frames have at most 16 bytes.
 pub fn worked_calls_hand_out_frames()
-    ensures frames { frames_of (Feeds (codes "AM") ∷ Asks ∷ Feeds (codes "QP" ++ 0 ∷ 0 ∷ 9 ∷ 1 ∷ 8 ∷ 0 ∷ [])
+    ensures frames { frames_of (Feeds (codes "AM") ∷ Asks
+        ∷ Feeds (codes "QP" ++ 0 ∷ 0 ∷ 9 ∷ 1 ∷ 8 ∷ 0 ∷ [])
         ∷ Asks ∷ Asks ∷ Feeds (0 ∷ 0 ∷ 0 ∷ 0 ∷ 0 ∷ 206 ∷ 8 ∷ []) ∷ Asks ∷ Asks ∷ []) (fresh 16)
         ≡ Protocol ∷ Heartbeat 0 ∷ [] }
-    ensures left { left_of (Feeds (codes "AMQP" ++ 0 ∷ 0 ∷ 9 ∷ 1 ∷ 8 ∷ 0 ∷ []) ∷ Asks ∷ Asks ∷ []) (fresh 16)
+    ensures left { left_of (Feeds (codes "AMQP" ++ 0 ∷ 0 ∷ 9 ∷ 1 ∷ 8 ∷ 0 ∷ [])
+        ∷ Asks ∷ Asks ∷ []) (fresh 16)
         ≡ record { begun = true; max = 16; unread = 8 ∷ 0 ∷ []; fault = None } }
     ensures fault { left_of (Feeds (0 ∷ []) ∷ Asks ∷ Feeds (1 ∷ []) ∷ []) (fresh 16)
         ≡ record { begun = false; max = 16; unread = []; fault = Some BadProtocol } }

@@ -1,5 +1,6 @@
 -- What crashes may leave of a cluster's queues, and the audits that it supports.
 use Rattle.std.specs.Prelude.{◌≡◌, ℕ, true, List, Some}
+use Rattle.qq_base.specs.Fronts.{put}
 use Rattle.qq_raft_protocol.specs.Facts.{In}
 use Rattle.qq_disk.specs.Crash.{Remains, IsImage}
 use Rattle.qq_disk.specs.Disk.{Disk}
@@ -45,3 +46,7 @@ pub record Supports (setup : Setup) (groups : HasGroups setup) (c : Cluster) (di
   pub read : (k : ℕ) → In k setup.nodes → IsReadable setup k (disks k)
   pub each : (place : ℕ) → In place setup.places
       → IsSupported (members_of (members setup place)) (MayHold setup disks place) (whole_at setup groups c place)
+
+-- and so with this disk in place of one node's
+abbrev pub SupportsWith : (setup : Setup) → HasGroups setup → Cluster → ℕ → (ℕ → Disk) → Disk → Type 0
+SupportsWith setup groups c k disks d = Supports setup groups c (put k d disks)

@@ -28,6 +28,10 @@ is_failure_at k _ = false
 abbrev pub fails_at : ℕ → List ClusterEvent → Bool
 fails_at k events = list_any (is_failure_at k) events
 
+-- It is said where the log was linked before the call, over a disk that tells its contents.
+abbrev pub WhereLinked : Setup → Cluster → ℕ → Seen → Type 0 → Type 0
+WhereLinked setup c k a Said = In k setup.nodes → IsTrue a.tells → IsLinked setup c k (now a.past) → Said
+
 -- Some events happened, which the rule allows: the cluster is as they leave it, what they print was added to the text, takers
 -- saw what they show, and each node's disk was at each moment what they say, where its log was linked before.
 pub record Happened (setup : Setup) (c : Cluster) (Allowed : List ClusterEvent → Type 0) (Stands : Cluster → Type 0)
@@ -38,8 +42,7 @@ pub record Happened (setup : Setup) (c : Cluster) (Allowed : List ClusterEvent �
   pub says : later.text ≡ before.text ++ text_of setup c events
   pub sees : later.takers ≡ takers_after setup c events before.takers
   pub told : (k : ℕ) → (b k).tells ≡ (a k).tells
-  pub moments : (k : ℕ) → In k setup.nodes → IsTrue (a k).tells → IsLinked setup c k (now (a k).past)
-      → IsTracedAt setup c k events (a k).past (b k).past
+  pub moments : (k : ℕ) → WhereLinked setup c k (a k) (IsTracedAt setup c k events (a k).past (b k).past)
 
 -- and no node was crashed, so each disk is the one that it was. It failed only where its count rose.
 pub record Serves (setup : Setup) (c : Cluster) (Allowed : List ClusterEvent → Type 0) (Stands : Cluster → Type 0)
@@ -49,6 +52,23 @@ pub record Serves (setup : Setup) (c : Cluster) (Allowed : List ClusterEvent →
   pub rises : (k : ℕ) → (a k).faults ≤ (b k).faults
   pub cause : (k : ℕ) → fails_at k did.events ≡ true → Rose (a k).faults (b k).faults
 
+-- by exactly these events, and exactly this cluster stands
+abbrev pub HappenedAs : Setup → Cluster → List ClusterEvent → Cluster → (ℕ → Seen) → (ℕ → Seen) → Outcome → Outcome
+    → Type 0
+HappenedAs setup c done last a b before later =
+    Happened setup c (λ events. events ≡ done) (λ d. d ≡ last) a b before later
+
+abbrev pub ServesAs : Setup → Cluster → List ClusterEvent → Cluster → (ℕ → Seen) → (ℕ → Seen) → Outcome → Outcome
+    → Type 0
+ServesAs setup c done last a b before later =
+    Serves setup c (λ events. events ≡ done) (λ d. d ≡ last) a b before later
+
+-- the cluster is as the events leave it, what they print was added to the text, and takers saw what they show
+abbrev pub IsLeftBy : Setup → Cluster → List ClusterEvent → Cluster → Outcome → Outcome → Type 0
+IsLeftBy setup c done last before later =
+    (last ≡ cluster_after c done) × (later.text ≡ before.text ++ text_of setup c done)
+    × (later.takers ≡ takers_after setup c done before.takers)
+
 -- There was no memory, or a number is at its end. Some events happened, and no crash, the last of them perhaps in part:
 -- at each moment of the call each node's disk keeps what its log had promised by then, where the log was linked before.
 pub record GivesUp (setup : Setup) (c : Cluster) (a b : ℕ → Seen) : Type 0 where
@@ -56,8 +76,7 @@ pub record GivesUp (setup : Setup) (c : Cluster) (a b : ℕ → Seen) : Type 0 w
   pub no_crash : (k : ℕ) → HasNoCrash k events
   pub told : (k : ℕ) → (b k).tells ≡ (a k).tells
   pub rises : (k : ℕ) → (a k).faults ≤ (b k).faults
-  pub moments : (k : ℕ) → In k setup.nodes → IsTrue (a k).tells → IsLinked setup c k (now (a k).past)
-      → IsBrokenAt setup c k events (a k).past (b k).past
+  pub moments : (k : ℕ) → WhereLinked setup c k (a k) (IsBrokenAt setup c k events (a k).past (b k).past)
 
 -- what follows by the rest of a rule, the whole rule allows
 abbrev pub Leads : (Cluster → List ClusterEvent → Type 0) → (Cluster → List ClusterEvent → Type 0) → Cluster

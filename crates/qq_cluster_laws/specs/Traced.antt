@@ -102,6 +102,10 @@ IsPromisedSince setup c k [] d = IsPromised setup c k d
 IsPromisedSince setup c k (event ∷ events) d =
     IsPromised setup c k d ⊎ IsPromisedSince setup (cluster_happens c event) k events d
 
+-- so it is at each moment since
+abbrev pub KeepsSince : Setup → Cluster → ℕ → List ClusterEvent → List Disk → List Disk → Type 0
+KeepsSince setup c k events old new = Adds (IsPromisedSince setup c k events) old new
+
 -- each node's disk keeps what its log has promised
 abbrev pub ArePromised : Setup → Cluster → (ℕ → Disk) → Type 0
 ArePromised setup c disks = (k : ℕ) → In k setup.nodes → IsPromised setup c k (disks k)

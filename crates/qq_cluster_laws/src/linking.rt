@@ -5,7 +5,7 @@ ghost use Rattle.qq_disk.specs.declared.image.Image.{Image};
 ghost use Rattle.qq_disk.specs.Disk.{Disk, now};
 ghost use Rattle.qq_log.specs.declared.op.Op.{Op};
 ghost use Rattle.qq_lots.specs.Kept.{IsTied, KeepsPromised};
-ghost use Rattle.qq_lots.specs.Left.{AllBetween, ops_found};
+ghost use Rattle.qq_lots.specs.Left.{ops_found};
 ghost use Rattle.qq_lots.specs.Lots.{find_each, give_batch, ids_of, keep_all};
 ghost use Rattle.qq_raft_model.specs.Group.{empty_seat};
 ghost use Rattle.qq_wal.specs.Running.{top};
@@ -14,7 +14,7 @@ ghost use Rattle.qq_wal_chain.specs.Laws.{KeepsPromise};
 ghost use Rattle.qq_cluster_model.specs.Cluster.{Cluster, ClusterEvent, Crashes, Fails, FindsEach, NodeSyncs, NodeWrites, Setup, cluster_happens, new_cluster};
 ghost use Rattle.qq_cluster_model.specs.ClusterLaws.{HasGroups};
 ghost use Rattle.qq_cluster_model.specs.Rules.{may_find};
-ghost use Rattle.qq_cluster_laws.specs.Linked.{IsLinked, IsPromised, IsReached, MembersFollow, lot_of, parts_at};
+ghost use Rattle.qq_cluster_laws.specs.Linked.{IsLinked, IsPromised, MembersFollow, WhereRecovered, lot_of, parts_at};
 ghost use Rattle.qq_cluster_laws.specs.Traced.{HasHonestImage, LeavesImage};
 ghost use Rattle.qq_cluster_laws.specs.Unseen.{sees};
 ghost use Rattle.qq_cluster_laws.specs.Waiting.{AllWait};
@@ -26,7 +26,8 @@ pub fn a_cluster_begins_linked()
         IsLinked setup (new_cluster setup) k d }
     ensures new { (setup : Setup) (k : ℕ) (d : Disk) →
         ((place : ℕ) → (setup.group place).seat k ≡ empty_seat) →
-        KeepsPromise (ids_of (lot_of setup k)) top [] [] d → IsLinked setup (new_cluster setup) k d }
+        KeepsPromise (ids_of (lot_of setup k)) top [] [] d →
+        IsLinked setup (new_cluster setup) k d }
     ensures members { (setup : Setup) (k : ℕ) → HasGroups setup →
         MembersFollow setup (new_cluster setup) k }
 {}
@@ -92,20 +93,14 @@ pub fn a_stop_keeps_the_promise()
 /// A law: of a node that is down each queue may take up what recovery settles on between what is synced and
 /// what was given. Then the log holds of each queue what its member goes on with, and each member is up.
 pub fn a_restart_goes_on_with_the_log()
-    ensures may { (setup : Setup) (c : Cluster) (k : ℕ) (lanes : Lanes) → HasGroups setup →
-        IsReached setup c → c.up k ≡ false → MembersFollow setup c k →
-        AllBetween (lot_of setup k) (parts_at c k) lanes →
-        list_all (λ (place : ℕ). may_find k (ops_found (lot_of setup k) lanes place)
-        (c.queue place)) setup.places ≡ true }
+    ensures may { (setup : Setup) (c : Cluster) (k : ℕ) (lanes : Lanes) →
+        WhereRecovered setup c k lanes (list_all (λ (place : ℕ).
+        may_find k (ops_found (lot_of setup k) lanes place) (c.queue place)) setup.places ≡ true) }
     ensures linked { (setup : Setup) (c : Cluster) (k : ℕ) (lanes : Lanes) (d : Disk) →
-        HasGroups setup → IsReached setup c → c.up k ≡ false → MembersFollow setup c k →
-        AllBetween (lot_of setup k) (parts_at c k) lanes →
-        IsTied (lot_of setup k)
-        (find_each (ops_found (lot_of setup k) lanes) (parts_at c k)) d →
-        IsLinked setup (cluster_happens c (FindsEach k (ops_found (lot_of setup k) lanes))) k d }
-    ensures members { (setup : Setup) (c : Cluster) (k : ℕ) (lanes : Lanes) → HasGroups setup →
-        IsReached setup c → c.up k ≡ false → MembersFollow setup c k →
-        AllBetween (lot_of setup k) (parts_at c k) lanes →
-        MembersFollow setup (cluster_happens c
-        (FindsEach k (ops_found (lot_of setup k) lanes))) k }
+        WhereRecovered setup c k lanes (
+        IsTied (lot_of setup k) (find_each (ops_found (lot_of setup k) lanes) (parts_at c k)) d →
+        IsLinked setup (cluster_happens c (FindsEach k (ops_found (lot_of setup k) lanes))) k d) }
+    ensures members { (setup : Setup) (c : Cluster) (k : ℕ) (lanes : Lanes) →
+        WhereRecovered setup c k lanes (MembersFollow setup
+        (cluster_happens c (FindsEach k (ops_found (lot_of setup k) lanes))) k) }
 {}

@@ -1,17 +1,14 @@
 //! What a call of a cluster leaves of its nodes' disks.
-ghost use Rattle.std.specs.Prelude.{◌≡◌, ◌≤◌, ◌++◌, true, ℕ, List, IsTrue};
+ghost use Rattle.std.specs.Prelude.{◌≡◌, ◌≤◌, true, ℕ, List};
 ghost use Rattle.qq_base.specs.Causes.{Rose};
 ghost use Rattle.qq_disk.specs.Disk.{Disk, now};
-ghost use Rattle.qq_disk.specs.Moments.{Adds};
-ghost use Rattle.qq_raft_protocol.specs.Facts.{In};
 ghost use Rattle.qq_cluster_model.specs.Cluster.{Cluster, ClusterEvent, Setup, cluster_after, new_cluster};
 ghost use Rattle.qq_cluster_model.specs.ClusterLaws.{HasGroups};
-ghost use Rattle.qq_cluster_model.specs.Outcome.{Outcome, takers_after};
-ghost use Rattle.qq_cluster_model.specs.Texts.{text_of};
+ghost use Rattle.qq_cluster_model.specs.Outcome.{Outcome};
 ghost use Rattle.qq_cluster_laws.specs.Answers.{KeepsAnswers};
 ghost use Rattle.qq_cluster_laws.specs.Linked.{IsLinked, IsPromised};
-ghost use Rattle.qq_cluster_laws.specs.Serves.{GivesUp, Happened, Seen, Serves, fails_at};
-ghost use Rattle.qq_cluster_laws.specs.Traced.{ArePromised, HasNoCrash, IsPromisedSince, IsTracedAt};
+ghost use Rattle.qq_cluster_laws.specs.Serves.{GivesUp, HappenedAs, IsLeftBy, Seen, ServesAs, WhereLinked, fails_at};
+ghost use Rattle.qq_cluster_laws.specs.Traced.{ArePromised, HasNoCrash, IsTracedAt, KeepsSince};
 
 use qq_cluster_model::a_cluster_prints_what_is_true;
 use qq_lots::whatever_is_left_lies_between;
@@ -24,16 +21,12 @@ use qq_raft_model::{the_disks_support_the_audit, what_a_group_committed_stays};
 ///   are traced on it.
 pub fn what_happened_is_on_the_disks()
     ensures text { (setup : Setup) (c last : Cluster) (done : List ClusterEvent) (a b : ℕ → Seen)
-        (before later : Outcome) →
-        Happened setup c (λ events. events ≡ done) (λ d. d ≡ last) a b before later →
-        (last ≡ cluster_after c done) × (later.text ≡ before.text ++ text_of setup c done)
-        × (later.takers ≡ takers_after setup c done before.takers) }
+        (before later : Outcome) → HappenedAs setup c done last a b before later →
+        IsLeftBy setup c done last before later }
     ensures disks { (setup : Setup) (c last : Cluster) (done : List ClusterEvent) (a b : ℕ → Seen)
-        (before later : Outcome) (k : ℕ) →
-        Happened setup c (λ events. events ≡ done) (λ d. d ≡ last) a b before later →
-        ((b k).tells ≡ (a k).tells) × (In k setup.nodes → IsTrue (a k).tells →
-        IsLinked setup c k (now (a k).past) →
-        IsTracedAt setup c k done (a k).past (b k).past) }
+        (before later : Outcome) (k : ℕ) → HappenedAs setup c done last a b before later →
+        ((b k).tells ≡ (a k).tells) × WhereLinked setup c k (a k)
+        (IsTracedAt setup c k done (a k).past (b k).past) }
 {}
 
 /// A law: of a call that served these events, so that this cluster stands.
@@ -44,16 +37,13 @@ pub fn what_happened_is_on_the_disks()
 ///   log had promised by then, and the log is linked to the cluster that stands now.
 pub fn what_was_served_keeps_the_promises()
     ensures faults { (setup : Setup) (c last : Cluster) (done : List ClusterEvent) (a b : ℕ → Seen)
-        (before later : Outcome) (k : ℕ) →
-        Serves setup c (λ events. events ≡ done) (λ d. d ≡ last) a b before later →
+        (before later : Outcome) (k : ℕ) → ServesAs setup c done last a b before later →
         HasNoCrash k done × ((a k).faults ≤ (b k).faults)
         × (fails_at k done ≡ true → Rose (a k).faults (b k).faults) }
     ensures moments { (setup : Setup) (c last : Cluster) (done : List ClusterEvent) (a b : ℕ → Seen)
-        (before later : Outcome) (k : ℕ) →
-        Serves setup c (λ events. events ≡ done) (λ d. d ≡ last) a b before later →
-        In k setup.nodes → IsTrue (a k).tells → IsLinked setup c k (now (a k).past) →
-        Adds (IsPromisedSince setup c k done) (a k).past (b k).past
-        × IsLinked setup last k (now (b k).past) }
+        (before later : Outcome) (k : ℕ) → ServesAs setup c done last a b before later →
+        WhereLinked setup c k (a k) (KeepsSince setup c k done (a k).past (b k).past
+        × IsLinked setup last k (now (b k).past)) }
 {}
 
 /// A law: a call that is given up leaves disks that tell what they told, whose counts of faults don't fall.
@@ -63,10 +53,9 @@ pub fn what_was_given_up_keeps_the_promises()
     ensures disks { (setup : Setup) (c : Cluster) (a b : ℕ → Seen) (k : ℕ) → GivesUp setup c a b →
         ((b k).tells ≡ (a k).tells) × ((a k).faults ≤ (b k).faults) }
     ensures moments { (setup : Setup) (c : Cluster) (a b : ℕ → Seen) → GivesUp setup c a b →
-        (events : List ClusterEvent) × ((k : ℕ) → In k setup.nodes → IsTrue (a k).tells →
-        IsLinked setup c k (now (a k).past) →
-        Adds (IsPromisedSince setup c k events) (a k).past (b k).past
-        × IsPromised setup (cluster_after c events) k (now (b k).past)) }
+        (events : List ClusterEvent) × ((k : ℕ) → WhereLinked setup c k (a k)
+        (KeepsSince setup c k events (a k).past (b k).past
+        × IsPromised setup (cluster_after c events) k (now (b k).past))) }
 {}
 
 /// A law: where each node's disk keeps what its log promised, since the cluster's beginning, whatever

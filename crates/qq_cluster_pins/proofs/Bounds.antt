@@ -11,6 +11,7 @@ use Rattle.qq_cluster_model.proofs.Takerless.{AreAt, IsAt, queue-at, tells-at, t
 use Rattle.qq_cluster_model.specs.Cluster.{At, Cluster, ClusterEvent, Fails, FindsEach, NodeSyncs, NodeWrites, Setup, cluster_after}
 use Rattle.qq_cluster_model.specs.Queue.{Notices, Queue, happens, waiting, waiting_by}
 use Rattle.qq_cluster_model.specs.Rules.{IsFound, IsNothing, IsNotice, IsRestart, IsSync, IsSynced, IsWrite, IsWritten, MayRoll, Tells, if_so, may_find, some_queue, waits_noticed, waits_synced, waits_written}
+use Rattle.qq_cluster_pins.specs.Served.{FindsNoticed}
 
 -- ---- tests over queues
 
@@ -62,11 +63,7 @@ restart-up setup k c events up restarts =
 abbrev Finds : Setup → ℕ → Cluster → List ClusterEvent → Type 0
 Finds setup k c events =
     (events ≡ Fails k ∷ [])
-    ⊎ ((ops : ℕ → ℕ) × (events ≡ FindsEach k ops ∷ [])
-    × ((place : ℕ) → Contains setup.places place → has_node k (c.queue place).group.nodes ≡ true
-    → (((c.queue place).group.seat k).server ≡ None)
-    × (((c.queue place).group.seat k).noticed ≤ ops place)
-    × (ops place ≤ length ((c.queue place).group.seat k).ops)))
+    ⊎ ((ops : ℕ → ℕ) × (events ≡ FindsEach k ops ∷ []) × FindsNoticed setup c k ops)
 
 pub restart-down : (setup : Setup) (k : ℕ) (c : Cluster) (events : List ClusterEvent) → c.up k ≡ false
     → IsRestart setup k c events → Finds setup k c events

@@ -9,6 +9,8 @@ use Rattle.qq_cluster_model.specs.Texts.{text_of}
 use Rattle.qq_cluster_laws.specs.Linked.{IsLinked}
 use Rattle.qq_cluster_laws.specs.Serves.{GivesUp, Happened, Seen, Serves, fails_at}
 use Rattle.qq_cluster_laws.specs.Traced.{HasNoCrash, IsBrokenAt, IsTracedAt}
+use Rattle.qq_cluster_pins.specs.Done.{BreaksOffOn, CountsFaults, StandsAfter, TracesOn}
+use Rattle.qq_cluster_pins.specs.Left.{IsNeverCrashed}
 use Rattle.qq_cluster_pins.proofs.Images.{there}
 use Rattle.qq_cluster_pins.proofs.Times.{fails-there, never-crashes}
 
@@ -20,8 +22,7 @@ module _ (setup : Setup) (c last : Cluster) (done : List ClusterEvent) (a b : �
   Stands d = d ≡ last
 
   pub happened-text : Happened setup c These Stands a b before later
-      → (last ≡ cluster_after c done) × (later.text ≡ before.text ++ text_of setup c done)
-      × (later.takers ≡ takers_after setup c done before.takers)
+      → StandsAfter setup c done last before later
   happened-text did = (
     sym did.stands ∙ ap (cluster_after c) did.means,
     did.says ∙ ap (λ es. before.text ++ text_of setup c es) did.means,
@@ -29,8 +30,7 @@ module _ (setup : Setup) (c last : Cluster) (done : List ClusterEvent) (a b : �
   )
 
   pub happened-disks : Happened setup c These Stands a b before later → (k : ℕ)
-      → ((b k).tells ≡ (a k).tells) × (Contains setup.nodes k → IsTrue (a k).tells → IsLinked setup c k (now (a k).past)
-      → IsTracedAt setup c k done (a k).past (b k).past)
+      → TracesOn setup c done k (a k) (b k)
   happened-disks did k = (
     did.told k,
     λ node tells linked. subst (λ es. IsTracedAt setup c k es (a k).past (b k).past) did.means
@@ -38,19 +38,17 @@ module _ (setup : Setup) (c last : Cluster) (done : List ClusterEvent) (a b : �
   )
 
   pub served-faults : Serves setup c These Stands a b before later → (k : ℕ)
-      → ((image : Image) → Contains done (Crashes k image) → ⊥) × ((a k).faults ≤ (b k).faults)
-      × (Contains done (Fails k) → ((a k).faults < (b k).faults) ⊎ ((b k).faults ≡ 2 ^ 64 - 1))
+      → IsNeverCrashed k done × CountsFaults k done (a k) (b k)
   served-faults served k = (
     never-crashes k done (subst (HasNoCrash k) served.did.means (served.no_crash k)),
-    served.rises k,
-    λ fails. served.cause k (subst (λ es. fails_at k es ≡ true) (sym served.did.means) (fails-there k done fails)),
+    (
+      served.rises k,
+      λ fails. served.cause k (subst (λ es. fails_at k es ≡ true) (sym served.did.means) (fails-there k done fails)),
+    ),
   )
 
 pub given-up : (setup : Setup) (c : Cluster) (a b : ℕ → Seen) → GivesUp setup c a b
-    → (events : List ClusterEvent) × ((k : ℕ) → ((image : Image) → Contains events (Crashes k image) → ⊥)
-    × ((b k).tells ≡ (a k).tells) × ((a k).faults ≤ (b k).faults)
-    × (Contains setup.nodes k → IsTrue (a k).tells → IsLinked setup c k (now (a k).past)
-    → IsBrokenAt setup c k events (a k).past (b k).past))
+    → (events : List ClusterEvent) × ((k : ℕ) → BreaksOffOn setup c events k (a k) (b k))
 given-up setup c a b gave = (
   gave.events,
   λ k. (

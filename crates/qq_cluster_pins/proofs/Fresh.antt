@@ -15,6 +15,7 @@ use Rattle.qq_cluster_model.specs.Queue.{leader}
 use Rattle.qq_cluster_model.specs.Rules.{is_idle}
 use Rattle.qq_cluster_progress_laws.specs.Opened.{AreNewGroups, FirstLeads, HasOpened, IsNewGroup}
 use Rattle.qq_cluster_progress_laws.specs.Soon.{AreNodes, AreOnce}
+use Rattle.qq_cluster_pins.specs.Served.{HasOneLog}
 
 -- ---- an opening
 
@@ -25,39 +26,29 @@ among-members j (n ∷ nodes) is = elim (or_cases (nat_eq n.0 j) (has_node j nod
   | inr more ↦ inr (among-members j nodes more)
 ]
 
-abbrev pub HasOneLog : Setup → Cluster → ℕ → Type 0
-HasOneLog setup c place =
-    (first : NodeId) × (others : List NodeId) × (s : Server)
-    × (is_idle setup c ≡ true) × ((k : ℕ) → Among k setup.nodes → c.up k ≡ true)
-    × (members setup place ≡ first ∷ others)
-    × (leader (c.queue place).group ≡ Some first.0) × (((c.queue place).group.seat first.0).server ≡ Some s)
-    × (is_ready s ≡ true)
-    × ((j : ℕ) → has_node j (members setup place) ≡ true → (t : Server)
-    × (c.up j ≡ true) × (((c.queue place).group.seat j).server ≡ Some t) × (t.log ≡ s.log) × (t.term.0 ≤ s.term.0)
-    × ((x : Peer) → j ≢ first.0 → Among x s.peers → x.node.0 ≡ j → x.next ≡ length s.log + 1))
-
 pub one-log : (setup : Setup) (c : Cluster) (place : ℕ) → HasOpened setup c → Among place setup.places
     → HasOneLog setup c place
 one-log setup c place opened here =
-    let f : FirstLeads setup c place = opened.each place here in (
-      f.first,
-      f.others,
-      f.server,
-      opened.idle,
-      opened.nodes_up,
-      f.members_are,
-      f.leads.leads,
-      f.leads.up,
-      f.ready,
-      λ j member. (let h = f.all j (among-members j (members setup place) member) in (
-        h.server,
-        h.node_up,
-        h.up,
-        h.log,
-        f.leads.latest j h.server h.up,
-        λ x other peer is. h.next other x peer is,
-      )),
-    )
+    let f : FirstLeads setup c place = opened.each place here in
+    record {
+      first = f.first;
+      others = f.others;
+      server = f.server;
+      idle = opened.idle;
+      nodes_up = opened.nodes_up;
+      members = f.members_are;
+      leads = f.leads.leads;
+      up = f.leads.up;
+      ready = f.ready;
+      each = λ j member. (let h = f.all j (among-members j (setup.group place).nodes member) in record {
+        server = h.server;
+        node_up = h.node_up;
+        up = h.up;
+        log = h.log;
+        term = f.leads.latest j h.server h.up;
+        next = λ x other peer is. h.next other x peer is;
+      });
+    }
 
 -- ---- four nodes with two queues
 

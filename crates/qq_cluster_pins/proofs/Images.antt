@@ -34,10 +34,9 @@ use Rattle.qq_cluster_laws.specs.Answers.{HasMajority, IsKept, KeepsAnswers}
 use Rattle.qq_cluster_laws.specs.Held.{MayHold, Supports, whole_at}
 use Rattle.qq_cluster_laws.specs.Linked.{IsPromised, IsReached, MembersFollow, lot_of, parts_at}
 use Rattle.qq_cluster_laws.proofs.Reached.{group-made, made}
+use Rattle.qq_cluster_pins.specs.Left.{AllPromised, AreOpsOf, HasMember, LiesBetween, MajorityBegins, MajorityHas, MayLeave, cluster_of, queues_at}
+use Rattle.qq_cluster_pins.specs.Served.{Prints}
 use Rattle.qq_cluster_pins.proofs.Halves.{filtered}
-
-abbrev pub queues_at : Setup → ℕ → List QueueId
-queues_at setup k = ids_of (lot_of setup k)
 
 -- ---- members of lists
 
@@ -75,48 +74,43 @@ ReadsWords =
     ≡ Some (state_in lanes (lot.id place)))) lot.places
 
 -- an image of a node's disk lies between what was synced and what was given
-abbrev pub LiesBetween : Setup → Cluster → ℕ → ℕ → Remains → Type 0
-LiesBetween setup c k place image =
-    (lanes : Lanes) × (n : ℕ) × (lanes_read (queues_at setup k) top image ≡ Some lanes)
-    × ((c.queue place).synced k ≤ n) × (n ≤ length ((c.queue place).group.seat k).ops)
-    × (stable (take n ((c.queue place).group.seat k).ops)
-    ≡ Some (unwrap_or (lanes (setup.args place).queue.0) new_state))
-
 pub lies-between : ReadsWords → (setup : Setup) (c : Cluster) (k place : ℕ) (d : Disk) (image : Remains)
-    → IsPromised setup c k d → Contains setup.places place → has_node k (members setup place) ≡ true → IsImage d image
-    → IsHonestImage (queues_at setup k) d image → LiesBetween setup c k place image
-lies-between reads setup c k place d image promised within member is honest =
-    let r = reads (lot_of setup k) (parts_at c k) d image promised is honest in
+    → IsPromised setup c k d → HasMember setup k place → MayLeave setup k d image → LiesBetween setup c k place image
+lies-between reads setup c k place d image promised has left =
+    let r = reads (lot_of setup k) (parts_at c k) d image promised left.0 left.1 in
     let own =
     AllByRecursion-in
     (λ (p : ℕ). ((c.queue p).synced k ≤ (state_in r.0 (setup.args p).queue).op)
     × ((state_in r.0 (setup.args p).queue).op ≤ length ((c.queue p).group.seat k).ops)
     × (stable (take (state_in r.0 (setup.args p).queue).op ((c.queue p).group.seat k).ops)
     ≡ Some (state_in r.0 (setup.args p).queue))) place (lot_of setup k).places r.2
-    (in-lot setup k place within member) in
-    (r.0, (state_in r.0 (setup.args place).queue).op, r.1, own.0, own.1, own.2)
+    (in-lot setup k place has.0 has.1) in
+    record {
+      lanes = r.0;
+      count = (state_in r.0 (setup.args place).queue).op;
+      read = r.1;
+      synced = own.0;
+      given = own.1;
+      state = own.2;
+    }
 
 pub tied-words : (setup : Setup) (c : Cluster) (k : ℕ) (d : Disk) (t : IsTied (lot_of setup k) (parts_at c k) d)
-    (place : ℕ) → Contains setup.places place → has_node k (members setup place) ≡ true
-    → (ops_at (lot_of setup k) place t.given ≡ ((c.queue place).group.seat k).ops)
-    × (ops_at (lot_of setup k) place t.noticed ≡ take ((c.queue place).synced k) ((c.queue place).group.seat k).ops)
-    × ((c.queue place).synced k ≤ length ((c.queue place).group.seat k).ops)
-tied-words setup c k d t place within member =
+    (place : ℕ) → HasMember setup k place → AreOpsOf setup c k place t.noticed t.given
+tied-words setup c k d t place has =
     let w : IsWritten (parts_at c k place) (ops_at (lot_of setup k) place t.noticed)
     (ops_at (lot_of setup k) place t.given) =
     AllByRecursion-in
     (λ (p : ℕ). IsWritten (parts_at c k p) (ops_at (lot_of setup k) p t.noticed) (ops_at (lot_of setup k) p t.given))
-    place (lot_of setup k).places t.each (in-lot setup k place within member) in
-    (w.written, w.synced, w.within)
+    place (lot_of setup k).places t.each (in-lot setup k place has.0 has.1) in
+    record { given_are = w.written; noticed_are = w.synced; within = w.within }
 
 pub member-follows : (setup : Setup) (c : Cluster) (k place : ℕ) → MembersFollow setup c k
-    → Contains setup.places place → has_node k (members setup place) ≡ true
-    → (c.up k ≡ false → ((c.queue place).group.seat k).server ≡ None)
+    → HasMember setup k place → (c.up k ≡ false → ((c.queue place).group.seat k).server ≡ None)
     × (c.up k ≡ true → (s : Server) × (((c.queue place).group.seat k).server ≡ Some s))
-member-follows setup c k place follow within member =
+member-follows setup c k place follow has =
     by ((c.queue place).group.seat k).server refl
     (AllByRecursion-in (λ (p : ℕ). is_some ((c.queue p).group.seat k).server ≡ c.up k) place (lot_of setup k).places
-    follow (in-lot setup k place within member))
+    follow (in-lot setup k place has.0 has.1))
   where
     by : (o : Option Server) → ((c.queue place).group.seat k).server ≡ o
         → is_some ((c.queue place).group.seat k).server ≡ c.up k
@@ -159,38 +153,30 @@ holds setup disks place k image lanes node member is honest read = record {
   is = refl;
 }
 
-abbrev pub HasAnswer : Setup → (ℕ → Disk) → ℕ → AuditRow → Type 0
-HasAnswer setup disks place row =
-    (counts : ℕ → Bool)
-    × (length (members_of (members setup place)) < 2 * length (filter counts (members_of (members setup place))))
-    × ((k : ℕ) (image : Remains) → Contains (members_of (members setup place)) k → counts k ≡ true
-    → Contains setup.nodes k → IsImage (disks k) image → IsHonestImage (queues_at setup k) (disks k) image
-    → (lanes : Lanes) × (lanes_read (queues_at setup k) top image ≡ Some lanes)
-    × Contains (known_entries (unwrap_or (lanes (setup.args place).queue.0) new_state).log) row.entry)
-
 -- an answer's entry is in what recovery reads of images
 pub entry-in_images : ReadsWords → (setup : Setup) (events : List ClusterEvent) (disks : ℕ → Disk) (place : ℕ)
     (row : AuditRow) → KeepsAnswers setup events disks
-    → ((k : ℕ) → Contains setup.nodes k → IsPromised setup (cluster_after (new_cluster setup) events) k (disks k))
-    → Contains (all_prints setup (new_cluster setup) events) (Of place (Answered row)) → Contains setup.places place
-    → HasAnswer setup disks place row
+    → AllPromised setup (cluster_of setup events) disks → Prints setup events (Of place (Answered row))
+    → Contains setup.places place
+    → MajorityHas setup disks place row.entry
 entry-in_images reads setup events disks place row keeps promised printed within =
     let kept : IsKept setup disks (Of place (Answered row)) =
     AllByRecursion-in (IsKept setup disks) (Of place (Answered row)) (all_prints setup (new_cluster setup) events) keeps
     (in_contains (all_prints setup (new_cluster setup) events) (Of place (Answered row)) printed) in
-    let most : HasMajority setup disks place row.entry = kept within in (
-      most.counts,
-      filtered most.counts (members_of (members setup place)) most.majority,
-      λ k image member counts node is honest.
-          (let r = reads (lot_of setup k) (parts_at (cluster_after (new_cluster setup) events) k) (disks k) image
-          (promised k node) is honest in
+    let most : HasMajority setup disks place row.entry = kept within in
+    record {
+      counts = most.counts;
+      most = filtered most.counts (members_of (members setup place)) most.majority;
+      each = λ k image member node left.
+          (let r = reads (lot_of setup k) (parts_at (cluster_of setup events) k) (disks k) image (promised k node) left.0
+          left.1 in
           let own = there (members_of (members setup place)) k member in (
             r.0,
             r.1,
-            most.each k own counts (lane_in (state_in r.0 (setup.args place).queue))
-                (holds setup disks place k image r.0 (there setup.nodes k node) own is honest r.1),
-          )),
-    )
+            λ counts. most.each k own counts (lane_in (state_in r.0 (setup.args place).queue))
+                (holds setup disks place k image r.0 (there setup.nodes k node) own left.0 left.1 r.1),
+          ));
+    }
 
 -- what the law of groups says of the audit
 abbrev pub KnowsWhole : Type 0
@@ -199,26 +185,21 @@ KnowsWhole =
     → IsFront whole (whole_audit whole (group_after g made))
     × IsFront (group_after g made).audit (whole_audit whole (group_after g made))
 
-abbrev pub HasFront : Setup → (ℕ → Disk) → ℕ → List Entry → Type 0
-HasFront setup disks place front =
-    (counts : ℕ → Bool) × (carrier : Entry)
-    × (length (members_of (members setup place)) < 2 * length (filter counts (members_of (members setup place))))
-    × ((k : ℕ) (image : Remains) → Contains (members_of (members setup place)) k → Contains setup.nodes k
-    → IsImage (disks k) image → IsHonestImage (queues_at setup k) (disks k) image
-    → (lanes : Lanes) × (lanes_read (queues_at setup k) top image ≡ Some lanes)
-    × (counts k ≡ true
-    → IsFront front (known_entries (unwrap_or (lanes (setup.args place).queue.0) new_state).log))
-    × ((a : List Entry) (e : Entry) → carrier.term.0 < e.term.0
-    → IsFront (a ++ e ∷ []) (known_entries (unwrap_or (lanes (setup.args place).queue.0) new_state).log)
-    → IsFront front (known_entries (unwrap_or (lanes (setup.args place).queue.0) new_state).log)))
-
 pub audits-in_images : KnowsWhole → (setup : Setup) (groups : HasGroups setup) (events : List ClusterEvent)
     (disks : ℕ → Disk) (place : ℕ) (before : List Entry) (entry : Entry)
     → Supports setup groups (cluster_after (new_cluster setup) events) disks → Contains setup.places place
     → IsFront (before ++ entry ∷ []) ((cluster_after (new_cluster setup) events).queue place).group.audit
-    → HasFront setup disks place (before ++ entry ∷ [])
+    → MajorityBegins setup disks place (before ++ entry ∷ [])
 audits-in_images knows setup groups events disks place before entry supports within front =
-    (carried.majority.counts, carried.entry, filtered carried.majority.counts ms carried.majority.majority, each)
+    record {
+      counts = carried.majority.counts;
+      carrier = carried.entry;
+      most = filtered carried.majority.counts ms carried.majority.majority;
+      each = λ k image member node left.
+          (let r = each k image member node left.0 left.1 in (r.0, r.1, r.2));
+      later = λ k image member node left.
+          (let r = each k image member node left.0 left.1 in (r.0, r.1, r.3));
+    }
   where
     c : Cluster
     c = cluster_after (new_cluster setup) events

@@ -12,6 +12,7 @@ use Rattle.qq_cluster_model.specs.Rules.{ForEach, Is, IsEmptied, IsJudgedWhere, 
 use Rattle.qq_cluster_model.specs.Serving as does
 use Rattle.qq_taker.specs.declared.handed.Handed.{Handed}
 use Rattle.qq_taker.specs.declared.taker.Verdict.TheVariants.{Keep}
+use Rattle.qq_cluster_pins.specs.Served.{IsStill}
 
 after-both : (c : Cluster) (first second : List ClusterEvent)
     → cluster_after c (first ++ second) ≡ cluster_after (cluster_after c first) second
@@ -84,13 +85,6 @@ pumps setup (suc most) c events is = by (is_idle setup c) refl is (λ d es rest.
         }
 
 -- ---- nothing is left to do
-
-abbrev pub IsStill : Setup → Cluster → ℕ → Type 0
-IsStill setup c place =
-    ((c.queue place).group.bag ≡ [])
-    × ((k : ℕ) → Contains setup.nodes k → c.up k ≡ true
-    → (((c.queue place).group.seat k).noticed ≡ length ((c.queue place).group.seat k).ops)
-    × ((s : Server) → ((c.queue place).group.seat k).server ≡ Some s → s.ops ≡ []))
 
 none-of : {A : Type 0} (xs : List A) → length xs ≡ 0 → xs ≡ []
 none-of [] is = refl

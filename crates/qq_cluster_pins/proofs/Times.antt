@@ -26,7 +26,9 @@ use Rattle.qq_cluster_laws.specs.Linked.{IsLinked, IsPromised, lot_of}
 use Rattle.qq_cluster_laws.specs.Serves.{fails_at, is_failure_at}
 use Rattle.qq_cluster_laws.specs.Traced.{FindsWhatIsRead, HasNoCrash, IsFair, IsNoCrash, IsPromisedSince, IsTracedAt, Keeps, KeepsAt, KeepsWhere, LeavesImage}
 use Rattle.qq_cluster_laws.specs.Unseen.{sees}
-use Rattle.qq_cluster_pins.proofs.Images.{ReadsWords, from-among, in-lot, lies-between, queues_at, there}
+use Rattle.qq_cluster_pins.proofs.Images.{ReadsWords, from-among, in-lot, lies-between, there}
+use Rattle.qq_cluster_pins.specs.Done.{SupportsWhile}
+use Rattle.qq_cluster_pins.specs.Left.{FindsWhatIsThere, LeavesNamedImage, StaysBetween, queues_at}
 
 -- ---- events without a crash
 
@@ -101,31 +103,22 @@ at-some_time setup c k (event ∷ events) d (inr later) =
       promised = t.promised;
     }
 
-abbrev pub KeepsSynced : Setup → Cluster → ℕ → List ClusterEvent → List Disk → List Disk → Type 0
-KeepsSynced setup c k events old new =
-    (more : List Disk) × (new ≡ more ++ old)
-    × ((d : Disk) (place : ℕ) (image : Remains) → Contains more d → Contains setup.places place
-    → has_node k (members setup place) ≡ true → IsImage d image → IsHonestImage (queues_at setup k) d image
-    → (early : List ClusterEvent) × (late : List ClusterEvent) × (lanes : Lanes) × (n : ℕ)
-    × (events ≡ early ++ late) × (lanes_read (queues_at setup k) top image ≡ Some lanes)
-    × (((cluster_after c early).queue place).synced k ≤ n)
-    × (n ≤ length (((cluster_after c early).queue place).group.seat k).ops)
-    × (stable (take n (((cluster_after c early).queue place).group.seat k).ops)
-    ≡ Some (unwrap_or (lanes (setup.args place).queue.0) new_state)))
-
 pub keeps-synced : ReadsWords → (setup : Setup) (c : Cluster) (k : ℕ) (events : List ClusterEvent)
-    (old new : List Disk) → Adds (IsPromisedSince setup c k events) old new → KeepsSynced setup c k events old new
-keeps-synced reads setup c k events old new adds = (
-  adds.more,
-  adds.is,
-  λ d place image among within member is honest.
+    (old new : List Disk) → Adds (IsPromisedSince setup c k events) old new → StaysBetween setup c k events old new
+keeps-synced reads setup c k events old new adds = record {
+  more = adds.more;
+  is = adds.is;
+  each = λ d place image among has left.
       (let t =
       at-some_time setup c k events d (AllByRecursion-in (IsPromisedSince setup c k events) d adds.more adds.each
       (in_contains adds.more d among)) in
-      let b =
-      lies-between reads setup (cluster_after c t.early) k place d image t.promised within member is honest in
-      (t.early, t.late, b.0, b.1, t.is, b.2, b.3, b.4, b.5)),
-)
+      record {
+        early = t.early;
+        late = t.late;
+        is = t.is;
+        between = lies-between reads setup (cluster_after c t.early) k place d image t.promised has left;
+      });
+}
 
 -- ---- one event
 
@@ -140,37 +133,29 @@ others-keep setup c k event old new unseen keeps' =
     subst (λ (b : Bool). KeepsWhere b setup c k event old new) unseen keeps'
 
 pub finds-read : (setup : Setup) (c : Cluster) (k : ℕ) (ops : ℕ → ℕ) (old new : List Disk)
-    → IsTracedAt setup c k (FindsEach k ops ∷ []) old new
-    → (early : List Disk) × (late : List Disk) × (lanes : Lanes)
-    × (new ≡ late ++ (early ++ old)) × (lanes_found (queues_at setup k) (shown (now (early ++ old))) ≡ Ok lanes)
-    × ((place : ℕ) → Contains setup.places place → has_node k (members setup place) ≡ true
-    → stable (take (ops place) ((c.queue place).group.seat k).ops)
-    ≡ Some (unwrap_or (lanes (setup.args place).queue.0) new_state))
+    → IsTracedAt setup c k (FindsEach k ops ∷ []) old new → FindsWhatIsThere setup c k ops old new
 finds-read setup c k ops old new (promised, start, mid, before, kept, behind) =
     let own = own-keeps setup c k (FindsEach k ops) start mid (eq-eqb k k refl) kept in
     let found : FindsWhatIsRead setup c k ops (now start) = own.0 in
     let during = own.1 in
-    let after = (behind tt).1 in (
-      before.more,
-      after.more ++ during.more,
-      found.lanes,
-      after.is ∙ ap (λ (past : List Disk). after.more ++ past) during.is
+    let after = (behind tt).1 in
+    record {
+      early = before.more;
+      late = after.more ++ during.more;
+      lanes = found.lanes;
+      is = after.is ∙ ap (λ (past : List Disk). after.more ++ past) during.is
           ∙ ap (λ (past : List Disk). after.more ++ (during.more ++ past)) before.is
-          ∙ sym (append_assoc after.more during.more (before.more ++ old)),
-      ap (λ (past : List Disk). lanes_found (queues_at setup k) (shown (now past))) (sym before.is) ∙ found.read,
-      λ place within member. AllByRecursion-in
+          ∙ sym (append_assoc after.more during.more (before.more ++ old));
+      read = ap (λ (past : List Disk). lanes_found (queues_at setup k) (shown (now past))) (sym before.is) ∙ found.read;
+      each = λ place has. AllByRecursion-in
           (λ (at : ℕ). stable (take (ops at) ((c.queue at).group.seat k).ops)
           ≡ Some (state_in found.lanes (setup.args at).queue)) place (lot_of setup k).places found.each
-          (in-lot setup k place within member),
-    )
+          (in-lot setup k place has.0 has.1);
+    }
 
 pub crash-leaves : (setup : Setup) (c : Cluster) (k : ℕ) (image : Image) (old new : List Disk)
     → IsTracedAt setup c k (Crashes k image ∷ []) old new
-    → (early : List Disk) × (newest : Option FileName) × IsNewestLog (now (early ++ old)) image.removed_back newest
-    × (((other : Option FileName) → IsNewestLog (now (early ++ old)) image.removed_back other
-    → IsHonestImage (queues_at setup k) (now (early ++ old)) (image_of image other (now (early ++ old))))
-    → (late : List Disk) × (new ≡ late ++ reopen (image_of image newest (now (early ++ old))) ∷ [])
-    × IsLinked setup (cluster_happens c (Crashes k image)) k (now new))
+    → LeavesNamedImage setup c k image old new
 crash-leaves setup c k image old new (promised, start, mid, before, kept, behind) =
     let h =
     subst (λ (past : List Disk). (newest : Option FileName) × IsNewestLog (now past) image.removed_back newest
@@ -178,7 +163,7 @@ crash-leaves setup c k image old new (promised, start, mid, before, kept, behind
     → IsHonestImage (queues_at setup k) (now past) (image_of image other (now past)))
     → (late : List Disk) × (new ≡ late ++ reopen (image_of image newest (now past)) ∷ [])
     × IsLinked setup (cluster_happens c (Crashes k image)) k (now new))) before.is here in
-    (before.more, h.0, h.1, h.2)
+    record { early = before.more; newest = h.0; is_newest = h.1; linked = h.2 }
   where
     left : LeavesImage image start mid
     left = own-keeps setup c k (Crashes k image) start mid (eq-eqb k k refl) kept
@@ -264,22 +249,18 @@ ends setup groups c events old new none always =
 
 pub during-event : (setup : Setup) (groups : HasGroups setup) (c : Cluster) (event : ClusterEvent)
     (events : List ClusterEvent) (old new : ℕ → List Disk) → ((k : ℕ) (image : Image) → Crashes k image ≡ event → ⊥)
-    → SupportAlways setup groups c (event ∷ events) old new
-    → (start : ℕ → List Disk) × (more : ℕ → List Disk)
-    × ((k : ℕ) → Contains setup.nodes k → KeepsAt setup c k event (start k) (more k ++ start k))
-    × ((disks : ℕ → Disk)
-    → ((k : ℕ) → Contains setup.nodes k → (disks k ≡ now (start k)) ⊎ Contains (more k) (disks k))
-    → Supports setup groups c disks)
+    → SupportAlways setup groups c (event ∷ events) old new → SupportsWhile setup groups c event
 during-event setup groups c event events old new none (start, mid, between, kept, during, rest) =
-    let own = during (calm event none) in (
-      start,
-      own.more,
-      λ k node.
+    let own = during (calm event none) in
+    record {
+      start = start;
+      more = own.more;
+      keeps = λ k node.
           subst (KeepsAt setup c k event (start k)) (own.is k (there setup.nodes k node))
-          (kept k (there setup.nodes k node)),
-      λ disks at.
+          (kept k (there setup.nodes k node));
+      each = λ disks at.
           own.each disks (λ k here. elim (at k (Contains-in k setup.nodes (from-among k setup.nodes here))) [
             | inl same ↦ inl same
             | inr later ↦ inr (there (own.more k) (disks k) later)
-          ]),
-    )
+          ]);
+    }

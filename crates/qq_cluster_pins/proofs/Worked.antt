@@ -1,21 +1,24 @@
 -- A pump of two nodes and two queues.
-use Rattle.std.proofs.Common.{◌≡◌, false, List, [], ◌∷◌, refl}
+use Rattle.std.proofs.Common.{◌≡◌, ◌∙◌, false, List, [], ◌∷◌, ap, refl, sym}
 use Rattle.std.specs.Fmt.{digits}
 use Rattle.qq_base.specs.Fronts.{put}
 use Rattle.qq_command.specs.Encoding.{body, content, death, deaths, encoding, fields, key, origin, payload, session, stamp}
+use Rattle.qq_model.proofs.Soundness.{Contains-in}
 use Rattle.qq_log.specs.Stable.{apply_op, change as change_log}
 use Rattle.qq_raft_model.specs.Leading.{send, add_entry, stand, lead, lead_if_elected, advance}
 use Rattle.qq_raft_model.specs.Server.{refuse, give_vote, receive_vote, receive_voted, take_entries, refuse_entries, receive_append, take_ack, step_back, receive_appended, accept, receive, tick, submit, notice}
 use Rattle.qq_raft_model.specs.State.{change, enter, say_all}
 use Rattle.qq_script_lines.specs.declared.line.ScriptLine.TheVariants.{Pump}
-use Rattle.qq_cluster_model.specs.Cluster.{At, Cluster, ClusterEvent, FindsEach, NodeSyncs, NodeWrites, cluster_after, new_cluster}
-use Rattle.qq_cluster_model.specs.ClusterLaws.{findings, has_failure, verdicts}
+use Rattle.qq_cluster_model.specs.Cluster.{At, Cluster, ClusterEvent, Fails, FindsEach, NodeSyncs, NodeWrites, cluster_after, new_cluster}
+use Rattle.qq_cluster_model.specs.ClusterLaws.{LeavesNoChoice, findings, has_failure, verdicts}
 use Rattle.qq_cluster_model.specs.Example.{setup_of}
 use Rattle.qq_cluster_model.specs.Lines.{IsLine}
 use Rattle.qq_cluster_model.specs.Queue.{Delivers, Notices, Ticks}
 use Rattle.qq_cluster_model.specs.Rules.{most_rounds}
 use Rattle.qq_cluster_model.specs.Serving.{pump}
 use Rattle.qq_cluster_progress_laws.proofs.Unasked.{no-verdicts, of-pumps, takerless-new, takerless-then}
+use Rattle.qq_cluster_pins.specs.Served.{NeverFails, NeverFinds}
+use Rattle.qq_cluster_pins.proofs.Faults.{fine-from, found-none}
 use Rattle.qq_cluster_pins.proofs.Rounds.{met-pump}
 
 abbrev opened : List ClusterEvent
@@ -56,3 +59,14 @@ none-judged events is =
     no-verdicts events (of-pumps most_rounds (setup_of 2 2) standing events
     (takerless-then (new_cluster (setup_of 2 2)) opened (tt, (tt, (tt, (tt, (tt, (tt, tt))))))
     (takerless-new (setup_of 2 2))) is)
+
+-- and so it is of each list of events by which the pump may be carried out without a failure and a restart
+pub pump-made : LeavesNoChoice (IsLine (setup_of 2 2) Pump) standing → (events : List ClusterEvent)
+    → IsLine (setup_of 2 2) Pump standing events → NeverFails events → NeverFinds events → events ≡ made
+pump-made settles events is never found =
+    settles events (pump (setup_of 2 2) standing) is pump-line
+    (fine-from events (λ k here. never k (Contains-in (Fails k) events here))) (ap has_failure pump-is ∙ fine)
+    (found-none events (λ k ops here. found k ops (Contains-in (FindsEach k ops) events here))
+    ∙ sym (ap findings pump-is ∙ none-found))
+    (none-judged events is ∙ sym (ap verdicts pump-is ∙ none-given))
+    ∙ pump-is

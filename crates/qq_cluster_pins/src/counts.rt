@@ -1,17 +1,17 @@
 //! Laws of how many are enough and of what comes after what, in numerals: the functions do nothing, and their
 //! contracts are the laws.
-ghost use Rattle.std.specs.Prelude.{◌≡◌, ◌⊎◌, ◌≤◌, ◌+◌, ◌++◌, ◌∷◌, [], ℕ, Bool, List, Some, true, false, Contains, filter, length, nat_le};
+ghost use Rattle.std.specs.Prelude.{◌≡◌, ◌≤◌, ◌+◌, ◌∷◌, [], ℕ, Bool, List, true, false, Contains, drop, filter, length, nat_le, take};
 ghost use Rattle.std.specs.List.{count_by};
 ghost use Rattle.qq_raft_model.specs.declared.peer.Peer.{Peer};
 ghost use Rattle.qq_raft_model.specs.Leading.{is_majority};
-ghost use Rattle.qq_raft_model.specs.State.{Server};
 ghost use Rattle.qq_raft_protocol.specs.Facts.{Most};
 ghost use Rattle.qq_script_lines.specs.declared.line.ScriptLine.TheVariants.{Pump};
-ghost use Rattle.qq_cluster_model.specs.Cluster.{At, Cluster, ClusterEvent, Fails, FindsEach, NodeSyncs, NodeWrites, SaysBusy, Setup, cluster_after, new_cluster};
+ghost use Rattle.qq_cluster_model.specs.Cluster.{At, Cluster, ClusterEvent, NodeSyncs, NodeWrites, Setup};
 ghost use Rattle.qq_cluster_model.specs.Example.{setup_of};
 ghost use Rattle.qq_cluster_model.specs.Lines.{IsLine};
-ghost use Rattle.qq_cluster_model.specs.Queue.{Delivers, Notices, Ticks};
-ghost use Rattle.qq_cluster_model.specs.Rules.{ForEach, IsPump, IsRound, is_idle};
+ghost use Rattle.qq_cluster_model.specs.Queue.{Delivers, Notices};
+ghost use Rattle.qq_cluster_model.specs.Rules.{IsPump, is_idle};
+ghost use Rattle.qq_cluster_pins.specs.Served.{NeverFails, NeverFinds, IsStill, AreRounds, opened};
 
 use qq_cluster_model::{lines_settle, pumps_end};
 
@@ -75,25 +75,13 @@ pub fn a_majority_of_logs_is_more_than_half()
 /// - `busy`: and only there.
 pub fn a_pump_makes_10000_rounds()
     ensures rounds { (setup : Setup) (c : Cluster) (events : List ClusterEvent) →
-        IsPump setup c events → (rounds : List ℕ) × (early : List ClusterEvent)
-        × (late : List ClusterEvent) × (events ≡ early ++ late) × (length rounds ≤ 10000)
-        × ForEach rounds (λ round. IsRound setup) c early
-        × (((late ≡ []) × (is_idle setup (cluster_after c early) ≡ true))
-        ⊎ ((late ≡ SaysBusy ∷ []) × (length rounds ≡ 10000)
-        × (is_idle setup (cluster_after c early) ≡ false))) }
+        IsPump setup c events → AreRounds 10000 setup c events }
     ensures none { (setup : Setup) (c : Cluster) (events : List ClusterEvent) →
         is_idle setup c ≡ true → IsPump setup c events → events ≡ [] }
     ensures idle { (setup : Setup) (c : Cluster) (place : ℕ) → is_idle setup c ≡ true →
-        Contains setup.places place → ((c.queue place).group.bag ≡ [])
-        × ((k : ℕ) → Contains setup.nodes k → c.up k ≡ true →
-        (((c.queue place).group.seat k).noticed ≡ length ((c.queue place).group.seat k).ops)
-        × ((s : Server) → ((c.queue place).group.seat k).server ≡ Some s → s.ops ≡ [])) }
+        Contains setup.places place → IsStill setup c place }
     ensures busy { (setup : Setup) (c : Cluster) → ((place : ℕ) → Contains setup.places place →
-        ((c.queue place).group.bag ≡ [])
-        × ((k : ℕ) → Contains setup.nodes k → c.up k ≡ true →
-        (((c.queue place).group.seat k).noticed ≡ length ((c.queue place).group.seat k).ops)
-        × ((s : Server) → ((c.queue place).group.seat k).server ≡ Some s → s.ops ≡ []))) →
-        is_idle setup c ≡ true }
+        IsStill setup c place) → is_idle setup c ≡ true }
 {
     pumps_end();
 }
@@ -103,16 +91,13 @@ pub fn a_pump_makes_10000_rounds()
 /// then the messages of queue 1 are delivered, and then those of queue 2. In the second round nothing waits at the
 /// nodes, and the refusals are delivered.
 pub fn a_round_goes_node_by_node()
-    ensures { (events : List ClusterEvent) → let opened = cluster_after (new_cluster (setup_of 2 2))
-        (FindsEach 1 (λ place. 0) ∷ FindsEach 2 (λ place. 0)
-        ∷ At 1 (Ticks 1) ∷ At 2 (Ticks 1) ∷ At 1 (Ticks 2) ∷ At 2 (Ticks 2) ∷ []) in
-        IsLine (setup_of 2 2) Pump opened events →
-        ((k : ℕ) → Contains events (Fails k) → ⊥) →
-        ((k : ℕ) (ops : ℕ → ℕ) → Contains events (FindsEach k ops) → ⊥) →
-        events
+    ensures nodes { (events : List ClusterEvent) → IsLine (setup_of 2 2) Pump opened events →
+        NeverFails events → NeverFinds events → take 8 events
         ≡ NodeWrites 1 ∷ NodeSyncs 1 ∷ At 1 (Notices 1) ∷ At 2 (Notices 1)
-        ∷ NodeWrites 2 ∷ NodeSyncs 2 ∷ At 1 (Notices 2) ∷ At 2 (Notices 2)
-        ∷ At 1 (Delivers 0) ∷ At 1 (Delivers 0) ∷ At 2 (Delivers 0) ∷ At 2 (Delivers 0)
+        ∷ NodeWrites 2 ∷ NodeSyncs 2 ∷ At 1 (Notices 2) ∷ At 2 (Notices 2) ∷ [] }
+    ensures messages { (events : List ClusterEvent) → IsLine (setup_of 2 2) Pump opened events →
+        NeverFails events → NeverFinds events → drop 8 events
+        ≡ At 1 (Delivers 0) ∷ At 1 (Delivers 0) ∷ At 2 (Delivers 0) ∷ At 2 (Delivers 0)
         ∷ At 1 (Delivers 0) ∷ At 1 (Delivers 0) ∷ At 2 (Delivers 0) ∷ At 2 (Delivers 0) ∷ [] }
 {
     lines_settle();

@@ -1,28 +1,26 @@
 //! Laws of the ends of sessions, of answers and of the leader: the functions do nothing, and their contracts are the
 //! laws.
-ghost use Rattle.std.specs.Prelude.{◌≡◌, ◌⊎◌, ◌<◌, ◌≤◌, ◌∷◌, [], ℕ, List, Some, None, true, false, not, Contains};
+ghost use Rattle.std.specs.Prelude.{◌≡◌, ◌<◌, ◌≤◌, ◌∷◌, [], ℕ, List, Some, None, true, false, not, Contains};
 ghost use Rattle.qq_base.specs.Ids.{client};
 ghost use Rattle.qq_entry.specs.declared.answer.Delivery.{Delivery};
 ghost use Rattle.qq_entry.specs.declared.audit.AuditRow.{AuditRow};
-ghost use Rattle.qq_entry.specs.declared.audit.Effect.TheVariants.{Deliver};
 ghost use Rattle.qq_base.specs.declared.ids.ConsumerId.{ConsumerId};
 ghost use Rattle.qq_entry.specs.declared.command.Command.TheVariants.{Down};
 ghost use Rattle.qq_entry.specs.declared.command.Unstamped.{Unstamped};
 ghost use Rattle.qq_entry.specs.declared.queue.QueueArgs.{QueueArgs};
-ghost use Rattle.qq_model.specs.Audit.{audit_of, effects_of};
-ghost use Rattle.qq_model.specs.State.{empty_queue};
 ghost use Rattle.qq_raft_model.specs.Group.{Group, group_after, has_node};
 ghost use Rattle.qq_raft_model.specs.Group.Event.{Submit};
 ghost use Rattle.qq_raft_model.specs.Server.{is_ready};
 ghost use Rattle.qq_raft_model.specs.State.{Server};
-ghost use Rattle.qq_session.specs.Clients.{Clients, ended_by, is_printed, sender};
+ghost use Rattle.qq_session.specs.Clients.{Clients, is_printed};
 ghost use Rattle.qq_session.specs.declared.shown.Shown.TheVariants.{Answered, Delivered, NoLeader, Taken};
 ghost use Rattle.qq_taker.specs.declared.taker.Verdict.{Verdict};
-ghost use Rattle.qq_cluster_model.specs.Cluster.{At, Cluster, ClusterEvent, Of, SaysEnded, Setup, all_prints, cluster_after, new_cluster};
+ghost use Rattle.qq_cluster_model.specs.Cluster.{At, Cluster, ClusterEvent, Of, SaysEnded, Setup, cluster_after, new_cluster};
 ghost use Rattle.qq_cluster_model.specs.ClusterLaws.{HasGroups};
 ghost use Rattle.qq_cluster_model.specs.Laws.{IsBegun};
 ghost use Rattle.qq_cluster_model.specs.Queue.{Downs, Ends, Event, Queue, Submits, TellsEnded, after, all_said, begin, happens, leader, said};
 ghost use Rattle.qq_cluster_model.specs.Rules.{IsGiven, IsResend, not_taken};
+ghost use Rattle.qq_cluster_pins.specs.Served.{TakesCommands, IsAnswered, HasDelivered, Prints};
 
 use qq_cluster_model::{
     a_cluster_prints_what_is_true, an_ended_session_gives_no_commands, ends_go_to_the_leader,
@@ -31,13 +29,13 @@ use qq_cluster_model::{
 
 /// A law: who leads a group.
 ///
-/// - `some`: a member that is up, leads and takes commands, and no other such member has a later term.
+/// - `some`, `latest`: a member that is up, leads and takes commands, and no other such member has a later term.
 /// - `none`: where there is no leader, no member that is up takes commands.
 pub fn the_leader_takes_commands()
-    ensures some { (g : Group) (k : ℕ) → leader g ≡ Some k → (s : Server)
-        × (has_node k g.nodes ≡ true) × ((g.seat k).server ≡ Some s) × (is_ready s ≡ true)
-        × ((j : ℕ) (t : Server) → has_node j g.nodes ≡ true → (g.seat j).server ≡ Some t →
-        is_ready t ≡ true → t.term.0 ≤ s.term.0) }
+    ensures some { (g : Group) (k : ℕ) → leader g ≡ Some k → TakesCommands g k }
+    ensures latest { (g : Group) (k j : ℕ) (s t : Server) → leader g ≡ Some k →
+        (g.seat k).server ≡ Some s → has_node j g.nodes ≡ true → (g.seat j).server ≡ Some t →
+        is_ready t ≡ true → t.term.0 ≤ s.term.0 }
     ensures none { (g : Group) (j : ℕ) (t : Server) → leader g ≡ None → has_node j g.nodes ≡ true →
         (g.seat j).server ≡ Some t → is_ready t ≡ false }
 {}
@@ -96,27 +94,18 @@ pub fn an_end_lasts()
 pub fn an_answer_is_to_a_client()
     ensures queue { (args : QueueArgs) (group : Group) (events : List Event) (row : AuditRow) →
         IsBegun group → Contains (all_said (begin args group) events) (Answered row) →
-        let q = after (begin args group) events in
-        (session : ℕ) × Contains (audit_of (empty_queue q.args) q.group.audit) row
-        × ((sender row ≡ Some session) ⊎ (ended_by row.entry.command ≡ Some session)) }
+        IsAnswered (after (begin args group) events) row }
     ensures cluster { (setup : Setup) (events : List ClusterEvent) (place : ℕ) (row : AuditRow) →
-        HasGroups setup →
-        Contains (all_prints setup (new_cluster setup) events) (Of place (Answered row)) →
-        let q = (cluster_after (new_cluster setup) events).queue place in
-        (session : ℕ) × Contains (audit_of (empty_queue q.args) q.group.audit) row
-        × ((sender row ≡ Some session) ⊎ (ended_by row.entry.command ≡ Some session)) }
+        HasGroups setup → Prints setup events (Of place (Answered row)) →
+        IsAnswered ((cluster_after (new_cluster setup) events).queue place) row }
     ensures delivered { (setup : Setup) (events : List ClusterEvent) (place : ℕ)
-        (consumer : ConsumerId) (delivery : Delivery) → HasGroups setup →
-        Contains (all_prints setup (new_cluster setup) events)
-        (Of place (Delivered consumer delivery)) →
-        let q = (cluster_after (new_cluster setup) events).queue place in
-        Contains (effects_of (empty_queue q.args) q.group.audit) (Deliver consumer delivery) }
+        (id : ConsumerId) (d : Delivery) → HasGroups setup →
+        Prints setup events (Of place (Delivered id d)) →
+        HasDelivered ((cluster_after (new_cluster setup) events).queue place) id d }
     ensures taken { (setup : Setup) (events : List ClusterEvent) (place number : ℕ)
-        (consumer : ConsumerId) (delivery : Delivery) (verdict : Verdict) → HasGroups setup →
-        Contains (all_prints setup (new_cluster setup) events)
-        (Of place (Taken number consumer delivery verdict)) →
-        let q = (cluster_after (new_cluster setup) events).queue place in
-        Contains (effects_of (empty_queue q.args) q.group.audit) (Deliver consumer delivery) }
+        (id : ConsumerId) (d : Delivery) (verdict : Verdict) → HasGroups setup →
+        Prints setup events (Of place (Taken number id d verdict)) →
+        HasDelivered ((cluster_after (new_cluster setup) events).queue place) id d }
 {
     what_is_printed_is_audited();
     a_cluster_prints_what_is_true();

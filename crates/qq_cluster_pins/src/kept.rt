@@ -1,26 +1,20 @@
 //! Laws of what the disks of a cluster keep: the functions do nothing, and their contracts are the laws.
-ghost use Rattle.std.specs.Prelude.{◌≡◌, ◌⊎◌, ◌≤◌, ◌<◌, ◌*◌, ◌++◌, ◌∷◌, [], ℕ, Bool, List, Option, Some, None, true, false, Contains, filter, length, map, take, unwrap_or};
+ghost use Rattle.std.specs.Prelude.{◌≡◌, ◌++◌, ◌∷◌, [], ℕ, List, Some, None, true, false, Contains};
 ghost use Rattle.qq_base.specs.Fronts.{IsFront};
-ghost use Rattle.qq_disk.specs.declared.image.Image.{Image};
-ghost use Rattle.qq_disk.specs.Crash.{Remains, IsImage};
+ghost use Rattle.qq_disk.specs.Crash.{Remains};
 ghost use Rattle.qq_disk.specs.Disk.{Disk, now};
 ghost use Rattle.qq_entry.specs.declared.audit.AuditRow.{AuditRow};
 ghost use Rattle.qq_entry.specs.declared.command.Entry.{Entry};
-ghost use Rattle.qq_log.specs.Stable.{known_entries, new_state, stable};
-ghost use Rattle.qq_log.specs.declared.op.Op.{Op};
-ghost use Rattle.qq_raft_model.specs.Group.{has_node};
-ghost use Rattle.qq_raft_model.specs.Promises.{members_of};
 ghost use Rattle.qq_raft_model.specs.State.{Server};
 ghost use Rattle.qq_session.specs.declared.shown.Shown.TheVariants.{Answered};
-ghost use Rattle.qq_wal.specs.Running.{top};
-ghost use Rattle.qq_wal_chain.specs.Lanes.{Lanes, of_queue};
-ghost use Rattle.qq_wal_chain.specs.Laws.{HoldsOps, IsHonestImage, lanes_read};
-ghost use Rattle.qq_cluster_model.specs.Cluster.{Cluster, ClusterEvent, Crashes, Of, Setup, all_prints, cluster_after, new_cluster};
+ghost use Rattle.qq_cluster_model.specs.Cluster.{Cluster, ClusterEvent, Of, Setup, cluster_after};
 ghost use Rattle.qq_cluster_model.specs.ClusterLaws.{HasGroups};
 ghost use Rattle.qq_cluster_laws.specs.Always.{SupportAlways};
 ghost use Rattle.qq_cluster_laws.specs.Held.{Supports};
 ghost use Rattle.qq_cluster_laws.specs.Linked.{IsLinked, IsPromised, MembersFollow};
-ghost use Rattle.qq_cluster_laws.specs.Traced.{KeepsAt};
+ghost use Rattle.qq_cluster_pins.specs.Left.{HasMember, MayLeave, LiesBetween, HoldsGiven, cluster_of, AllPromised, IsCalm, IsNeverCrashed, MajorityHas, MajorityBegins};
+ghost use Rattle.qq_cluster_pins.specs.Done.{SupportsWhile};
+ghost use Rattle.qq_cluster_pins.specs.Served.{Prints};
 
 use qq_cluster_laws::what_was_answered_is_kept;
 use qq_lots::whatever_is_left_lies_between;
@@ -31,15 +25,8 @@ use qq_raft_model::what_a_group_committed_stays;
 /// than a sync has kept, and no more than the log was given.
 pub fn each_image_lies_between()
     ensures { (setup : Setup) (c : Cluster) (k place : ℕ) (d : Disk) (image : Remains) →
-        let queues = map (λ (p : ℕ). (setup.args p).queue)
-        (filter (λ (p : ℕ). has_node k (setup.group p).nodes) setup.places) in
-        IsPromised setup c k d → Contains setup.places place →
-        has_node k (setup.group place).nodes ≡ true → IsImage d image →
-        IsHonestImage queues d image →
-        (lanes : Lanes) × (n : ℕ) × (lanes_read queues top image ≡ Some lanes)
-        × ((c.queue place).synced k ≤ n) × (n ≤ length ((c.queue place).group.seat k).ops)
-        × (stable (take n ((c.queue place).group.seat k).ops)
-        ≡ Some (unwrap_or (lanes (setup.args place).queue.0) new_state)) }
+        IsPromised setup c k d → HasMember setup k place → MayLeave setup k d image →
+        LiesBetween setup c k place image }
 {
     whatever_is_left_lies_between();
 }
@@ -54,19 +41,11 @@ pub fn a_linked_log_has_what_was_given()
     ensures promised { (setup : Setup) (c : Cluster) (k : ℕ) (d : Disk) → IsLinked setup c k d →
         IsPromised setup c k d }
     ensures tied { (setup : Setup) (c : Cluster) (k : ℕ) (d : Disk) → IsLinked setup c k d →
-        c.up k ≡ true → (noticed : List Op) × (given : List Op)
-        × HoldsOps (map (λ (p : ℕ). (setup.args p).queue)
-        (filter (λ (p : ℕ). has_node k (setup.group p).nodes) setup.places)) top given d
-        × ((place : ℕ) → Contains setup.places place →
-        has_node k (setup.group place).nodes ≡ true →
-        (of_queue (setup.args place).queue.0 given ≡ ((c.queue place).group.seat k).ops)
-        × (of_queue (setup.args place).queue.0 noticed
-        ≡ take ((c.queue place).synced k) ((c.queue place).group.seat k).ops)
-        × ((c.queue place).synced k ≤ length ((c.queue place).group.seat k).ops)) }
+        c.up k ≡ true → HoldsGiven setup c k d }
     ensures members { (setup : Setup) (c : Cluster) (k place : ℕ) → MembersFollow setup c k →
-        Contains setup.places place → has_node k (setup.group place).nodes ≡ true →
-        (c.up k ≡ false → ((c.queue place).group.seat k).server ≡ None)
-        × (c.up k ≡ true → (s : Server) × (((c.queue place).group.seat k).server ≡ Some s)) }
+        HasMember setup k place → let server = ((c.queue place).group.seat k).server in
+        (c.up k ≡ false → server ≡ None)
+        × (c.up k ≡ true → (s : Server) × (server ≡ Some s)) }
 {}
 
 /// A law: where each node's disk keeps what its log promised, since the cluster's beginning, a majority of a queue's
@@ -74,18 +53,10 @@ pub fn a_linked_log_has_what_was_given()
 /// the queue's log there has the entry.
 pub fn an_answered_entry_is_in_each_image()
     ensures { (setup : Setup) (events : List ClusterEvent) (disks : ℕ → Disk) (place : ℕ)
-        (row : AuditRow) → HasGroups setup → ((k : ℕ) → Contains setup.nodes k →
-        IsPromised setup (cluster_after (new_cluster setup) events) k (disks k)) →
-        Contains (all_prints setup (new_cluster setup) events) (Of place (Answered row)) →
-        Contains setup.places place → let members = members_of (setup.group place).nodes in
-        (counts : ℕ → Bool) × (length members < 2 * length (filter counts members))
-        × ((k : ℕ) (image : Remains) → let queues = map (λ (p : ℕ). (setup.args p).queue)
-        (filter (λ (p : ℕ). has_node k (setup.group p).nodes) setup.places) in
-        Contains members k → counts k ≡ true → Contains setup.nodes k →
-        IsImage (disks k) image → IsHonestImage queues (disks k) image →
-        (lanes : Lanes) × (lanes_read queues top image ≡ Some lanes)
-        × Contains (known_entries (unwrap_or (lanes (setup.args place).queue.0) new_state).log)
-        row.entry) }
+        (row : AuditRow) → HasGroups setup →
+        AllPromised setup (cluster_of setup events) disks →
+        Prints setup events (Of place (Answered row)) → Contains setup.places place →
+        MajorityHas setup disks place row.entry }
 {
     what_was_answered_is_kept();
     whatever_is_left_lies_between();
@@ -96,24 +67,10 @@ pub fn an_answered_entry_is_in_each_image()
 /// any member with an entry of a later term than that of some entry by which the majority has it.
 pub fn each_image_has_the_audits()
     ensures { (setup : Setup) (groups : HasGroups setup) (events : List ClusterEvent)
-        (disks : ℕ → Disk) (place : ℕ) (before : List Entry) (entry : Entry) →
-        Supports setup groups (cluster_after (new_cluster setup) events) disks →
-        Contains setup.places place → IsFront (before ++ entry ∷ [])
-        ((cluster_after (new_cluster setup) events).queue place).group.audit →
-        let members = members_of (setup.group place).nodes in
-        (counts : ℕ → Bool) × (carrier : Entry)
-        × (length members < 2 * length (filter counts members))
-        × ((k : ℕ) (image : Remains) → let queues = map (λ (p : ℕ). (setup.args p).queue)
-        (filter (λ (p : ℕ). has_node k (setup.group p).nodes) setup.places) in
-        Contains members k → Contains setup.nodes k → IsImage (disks k) image →
-        IsHonestImage queues (disks k) image →
-        (lanes : Lanes) × (lanes_read queues top image ≡ Some lanes)
-        × (counts k ≡ true → IsFront (before ++ entry ∷ [])
-        (known_entries (unwrap_or (lanes (setup.args place).queue.0) new_state).log))
-        × ((a : List Entry) (e : Entry) → carrier.term.0 < e.term.0 → IsFront (a ++ e ∷ [])
-        (known_entries (unwrap_or (lanes (setup.args place).queue.0) new_state).log) →
-        IsFront (before ++ entry ∷ [])
-        (known_entries (unwrap_or (lanes (setup.args place).queue.0) new_state).log))) }
+        (disks : ℕ → Disk) (place : ℕ) (older : List Entry) (e : Entry) →
+        let c = cluster_of setup events in Supports setup groups c disks →
+        Contains setup.places place → IsFront (older ++ e ∷ []) (c.queue place).group.audit →
+        MajorityBegins setup disks place (older ++ e ∷ []) }
 {
     what_a_group_committed_stays();
 }
@@ -128,17 +85,10 @@ pub fn always_is_at_each_time()
         Supports setup groups c (λ (k : ℕ). now (old k)) }
     ensures ends { (setup : Setup) (groups : HasGroups setup) (c : Cluster)
         (events : List ClusterEvent) (old new : ℕ → List Disk) →
-        ((k : ℕ) (image : Image) → Contains events (Crashes k image) → ⊥) →
-        SupportAlways setup groups c events old new →
+        ((k : ℕ) → IsNeverCrashed k events) → SupportAlways setup groups c events old new →
         Supports setup groups (cluster_after c events) (λ (k : ℕ). now (new k)) }
     ensures event { (setup : Setup) (groups : HasGroups setup) (c : Cluster) (event : ClusterEvent)
-        (events : List ClusterEvent) (old new : ℕ → List Disk) →
-        ((k : ℕ) (image : Image) → Crashes k image ≡ event → ⊥) →
+        (events : List ClusterEvent) (old new : ℕ → List Disk) → IsCalm event →
         SupportAlways setup groups c (event ∷ events) old new →
-        (start : ℕ → List Disk) × (more : ℕ → List Disk)
-        × ((k : ℕ) → Contains setup.nodes k →
-        KeepsAt setup c k event (start k) (more k ++ start k))
-        × ((disks : ℕ → Disk) → ((k : ℕ) → Contains setup.nodes k →
-        (disks k ≡ now (start k)) ⊎ Contains (more k) (disks k)) →
-        Supports setup groups c disks) }
+        SupportsWhile setup groups c event }
 {}

@@ -1,16 +1,15 @@
 //! Laws of lines: the functions do nothing, and their contracts are the laws.
-ghost use Rattle.std.specs.Prelude.{◌≡◌, ◌∷◌, [], ℕ, List, Contains, false};
+ghost use Rattle.std.specs.Prelude.{◌≡◌, ◌∷◌, [], List, false};
 ghost use Rattle.qq_base.specs.declared.ids.NodeId.{NodeId};
 ghost use Rattle.qq_base.specs.declared.ids.QueueId.{QueueId};
 ghost use Rattle.qq_script_lines.specs.declared.line.ScriptLine.{ScriptLine};
 ghost use Rattle.qq_script_lines.specs.declared.line.ScriptLine.TheVariants.{Notice, Sync, Tick, Write};
-ghost use Rattle.qq_taker.specs.declared.taker.Verdict.{Verdict};
 ghost use Rattle.qq_taker.specs.declared.taker.Verdict.TheVariants.{Discard, Keep, Return, Settle};
-ghost use Rattle.qq_cluster_model.specs.Cluster.{At, Cluster, ClusterEvent, Fails, FindsEach, SaysDown, Setup, new_cluster};
+ghost use Rattle.qq_cluster_model.specs.Cluster.{At, Cluster, ClusterEvent, SaysDown, Setup, new_cluster};
 ghost use Rattle.qq_cluster_model.specs.ClusterLaws.{HasGroups, verdicts};
 ghost use Rattle.qq_cluster_model.specs.Lines.{IsLine, IsRun};
 ghost use Rattle.qq_cluster_model.specs.Queue.{Judges, Notices};
-ghost use Rattle.qq_cluster_model.specs.Serving.{all_given, run};
+ghost use Rattle.qq_cluster_pins.specs.Served.{NeverFails, NeverFinds, NeverJudges};
 
 use qq_cluster_model::{a_node_that_is_down_says_so, lines_settle, scripts_may_be_served};
 
@@ -41,25 +40,20 @@ pub fn a_node_that_is_down_does_nothing()
 pub fn nothing_but_faults_is_left_open()
     ensures line { (setup : Setup) (line : ScriptLine) (c : Cluster)
         (events others : List ClusterEvent) → IsLine setup line c events →
-        IsLine setup line c others →
-        ((k : ℕ) → (Contains events (Fails k) → ⊥) × (Contains others (Fails k) → ⊥)) →
-        ((k : ℕ) (ops : ℕ → ℕ) →
-        (Contains events (FindsEach k ops) → ⊥) × (Contains others (FindsEach k ops) → ⊥)) →
-        ((place : ℕ) (verdict : Verdict) → (Contains events (At place (Judges verdict)) → ⊥)
-        × (Contains others (At place (Judges verdict)) → ⊥)) → events ≡ others }
+        IsLine setup line c others → NeverFails events → NeverFails others →
+        NeverFinds events → NeverFinds others → NeverJudges events → NeverJudges others →
+        events ≡ others }
     ensures judged { (setup : Setup) (line : ScriptLine) (c : Cluster)
         (events others : List ClusterEvent) → IsLine setup line c events →
-        IsLine setup line c others →
-        ((k : ℕ) → (Contains events (Fails k) → ⊥) × (Contains others (Fails k) → ⊥)) →
-        ((k : ℕ) (ops : ℕ → ℕ) →
-        (Contains events (FindsEach k ops) → ⊥) × (Contains others (FindsEach k ops) → ⊥)) →
-        verdicts events ≡ verdicts others → events ≡ others }
+        IsLine setup line c others → NeverFails events → NeverFails others →
+        NeverFinds events → NeverFinds others → verdicts events ≡ verdicts others →
+        events ≡ others }
     ensures verdicts { verdicts (At 1 (Notices 1) ∷ At 1 (Judges Settle) ∷ SaysDown 1
         ∷ At 2 (Judges Keep) ∷ At 1 (Judges Return) ∷ At 1 (Judges Discard) ∷ [])
         ≡ Settle ∷ Keep ∷ Return ∷ Discard ∷ [] }
     ensures served { (setup : Setup) (lines : List ScriptLine) → HasGroups setup →
         (events : List ClusterEvent) × IsRun setup lines (new_cluster setup) events
-        × ((k : ℕ) → Contains events (Fails k) → ⊥) }
+        × NeverFails events }
 {
     lines_settle();
     scripts_may_be_served();

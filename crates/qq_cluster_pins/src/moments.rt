@@ -1,24 +1,16 @@
 //! Laws of what a node's disk is at each moment: the functions do nothing, and their contracts are the laws.
-ghost use Rattle.std.specs.Prelude.{◌≡◌, ◌≢◌, ◌⊎◌, ◌≤◌, ◌<◌, ◌-◌, ◌^◌, ◌++◌, ◌∷◌, [], ℕ, Bool, List, Option, Ok, Some, true, Contains, IsTrue, filter, length, map, take, unwrap_or};
+ghost use Rattle.std.specs.Prelude.{◌≡◌, ◌≢◌, ◌-◌, ◌++◌, ◌∷◌, [], ℕ, List};
 ghost use Rattle.qq_disk.specs.declared.image.Image.{Image};
-ghost use Rattle.qq_disk.specs.declared.name.FileName.{FileName};
-ghost use Rattle.qq_disk.specs.Crash.{Remains, IsImage, reopen};
 ghost use Rattle.qq_disk.specs.Disk.{Disk, now};
-ghost use Rattle.qq_disk.specs.Image.{IsNewestLog, image_of};
-ghost use Rattle.qq_log.specs.Stable.{new_state, stable};
-ghost use Rattle.qq_raft_model.specs.Group.{has_node};
-ghost use Rattle.qq_recover.specs.Reading.{lanes_read as lanes_found, shown};
-ghost use Rattle.qq_wal.specs.Running.{top};
-ghost use Rattle.qq_wal_chain.specs.Lanes.{Lanes};
-ghost use Rattle.qq_wal_chain.specs.Laws.{IsHonestImage, lanes_read};
-ghost use Rattle.qq_cluster_model.specs.Cluster.{At, Alike, Cluster, ClusterEvent, Crashes, EndsEach, Fails, FindsEach, NodeSyncs, NodeWrites, Setup, cluster_after, cluster_happens};
+ghost use Rattle.qq_cluster_model.specs.Cluster.{At, Alike, Cluster, ClusterEvent, Crashes, EndsEach, Fails, FindsEach, NodeSyncs, NodeWrites, Setup, cluster_after};
 ghost use Rattle.qq_cluster_model.specs.Queue.{Delivers, Notices, Submits, Ticks};
-ghost use Rattle.qq_cluster_model.specs.Outcome.{Outcome, takers_after};
-ghost use Rattle.qq_cluster_model.specs.Texts.{text_of};
+ghost use Rattle.qq_cluster_model.specs.Outcome.{Outcome};
 ghost use Rattle.qq_entry.specs.declared.command.Unstamped.{Unstamped};
-ghost use Rattle.qq_cluster_laws.specs.Linked.{IsLinked, IsPromised};
+ghost use Rattle.qq_cluster_laws.specs.Linked.{IsLinked};
 ghost use Rattle.qq_cluster_laws.specs.Serves.{GivesUp, Happened, Leads, Seen, Serves};
 ghost use Rattle.qq_cluster_laws.specs.Traced.{IsBrokenAt, IsTracedAt, KeepsAt};
+ghost use Rattle.qq_cluster_pins.specs.Left.{IsNeverCrashed, StaysBetween, FindsWhatIsThere, LeavesNamedImage};
+ghost use Rattle.qq_cluster_pins.specs.Done.{StandsAfter, CountsFaults, TracesOn, BreaksOffOn};
 
 use qq_cluster_laws::a_trace_tells_of_the_disk;
 use qq_lots::whatever_is_left_lies_between;
@@ -28,36 +20,13 @@ use qq_lots::whatever_is_left_lies_between;
 /// and of each queue of the node it has the state that so many of the queue's first ops give.
 pub fn each_moment_keeps_what_was_synced()
     ensures traced { (setup : Setup) (c : Cluster) (k : ℕ) (events : List ClusterEvent)
-        (old new : List Disk) → let queues = map (λ (p : ℕ). (setup.args p).queue)
-        (filter (λ (p : ℕ). has_node k (setup.group p).nodes) setup.places) in
-        ((image : Image) → Contains events (Crashes k image) → ⊥) →
-        IsTracedAt setup c k events old new → (more : List Disk) × (new ≡ more ++ old)
-        × ((d : Disk) (place : ℕ) (image : Remains) → Contains more d →
-        Contains setup.places place → has_node k (setup.group place).nodes ≡ true →
-        IsImage d image → IsHonestImage queues d image →
-        (early : List ClusterEvent) × (late : List ClusterEvent) × (lanes : Lanes) × (n : ℕ)
-        × (events ≡ early ++ late) × (lanes_read queues top image ≡ Some lanes)
-        × (((cluster_after c early).queue place).synced k ≤ n)
-        × (n ≤ length (((cluster_after c early).queue place).group.seat k).ops)
-        × (stable (take n (((cluster_after c early).queue place).group.seat k).ops)
-        ≡ Some (unwrap_or (lanes (setup.args place).queue.0) new_state))) }
+        (old new : List Disk) → IsNeverCrashed k events → IsTracedAt setup c k events old new →
+        StaysBetween setup c k events old new }
     ensures broken { (setup : Setup) (c : Cluster) (k : ℕ) (events : List ClusterEvent)
-        (old new : List Disk) → let queues = map (λ (p : ℕ). (setup.args p).queue)
-        (filter (λ (p : ℕ). has_node k (setup.group p).nodes) setup.places) in
-        ((image : Image) → Contains events (Crashes k image) → ⊥) →
-        IsBrokenAt setup c k events old new → (more : List Disk) × (new ≡ more ++ old)
-        × ((d : Disk) (place : ℕ) (image : Remains) → Contains more d →
-        Contains setup.places place → has_node k (setup.group place).nodes ≡ true →
-        IsImage d image → IsHonestImage queues d image →
-        (early : List ClusterEvent) × (late : List ClusterEvent) × (lanes : Lanes) × (n : ℕ)
-        × (events ≡ early ++ late) × (lanes_read queues top image ≡ Some lanes)
-        × (((cluster_after c early).queue place).synced k ≤ n)
-        × (n ≤ length (((cluster_after c early).queue place).group.seat k).ops)
-        × (stable (take n (((cluster_after c early).queue place).group.seat k).ops)
-        ≡ Some (unwrap_or (lanes (setup.args place).queue.0) new_state))) }
+        (old new : List Disk) → IsNeverCrashed k events → IsBrokenAt setup c k events old new →
+        StaysBetween setup c k events old new }
     ensures linked { (setup : Setup) (c : Cluster) (k : ℕ) (events : List ClusterEvent)
-        (old new : List Disk) → ((image : Image) → Contains events (Crashes k image) → ⊥) →
-        IsTracedAt setup c k events old new →
+        (old new : List Disk) → IsNeverCrashed k events → IsTracedAt setup c k events old new →
         IsLinked setup (cluster_after c events) k (now new) }
 {
     a_trace_tells_of_the_disk();
@@ -68,36 +37,20 @@ pub fn each_moment_keeps_what_was_synced()
 /// the queue's ops give the state that was read.
 pub fn a_restart_finds_what_the_disk_reads()
     ensures { (setup : Setup) (c : Cluster) (k : ℕ) (ops : ℕ → ℕ) (old new : List Disk) →
-        let queues = map (λ (p : ℕ). (setup.args p).queue)
-        (filter (λ (p : ℕ). has_node k (setup.group p).nodes) setup.places) in
         IsTracedAt setup c k (FindsEach k ops ∷ []) old new →
-        (early : List Disk) × (late : List Disk) × (lanes : Lanes)
-        × (new ≡ late ++ (early ++ old))
-        × (lanes_found queues (shown (now (early ++ old))) ≡ Ok lanes)
-        × ((place : ℕ) → Contains setup.places place →
-        has_node k (setup.group place).nodes ≡ true →
-        stable (take (ops place) ((c.queue place).group.seat k).ops)
-        ≡ Some (unwrap_or (lanes (setup.args place).queue.0) new_state)) }
+        FindsWhatIsThere setup c k ops old new }
 {}
 
 /// A law: a crash of a node leaves the named image of its disk, opened again, and no moment before it. If that meets
 /// the log's premise, the log is linked in the end; else nothing is said of what comes after.
 pub fn a_crash_leaves_one_moment()
     ensures { (setup : Setup) (c : Cluster) (k : ℕ) (image : Image) (old new : List Disk) →
-        let queues = map (λ (p : ℕ). (setup.args p).queue)
-        (filter (λ (p : ℕ). has_node k (setup.group p).nodes) setup.places) in
         IsTracedAt setup c k (Crashes k image ∷ []) old new →
-        (early : List Disk) × (newest : Option FileName)
-        × IsNewestLog (now (early ++ old)) image.removed_back newest
-        × (((other : Option FileName) →
-        IsNewestLog (now (early ++ old)) image.removed_back other →
-        IsHonestImage queues (now (early ++ old)) (image_of image other (now (early ++ old)))) →
-        (late : List Disk)
-        × (new ≡ late ++ reopen (image_of image newest (now (early ++ old))) ∷ [])
-        × IsLinked setup (cluster_happens c (Crashes k image)) k (now new)) }
+        LeavesNamedImage setup c k image old new }
 {}
 
-/// A law: what happens to other nodes' logs, and what no log sees, leaves a node's disk exactly as it was.
+/// A law: what happens to other nodes' logs, and what no log sees, leaves a node's disk exactly as it was: a tick, a
+/// notice and a message at a queue, and what its clients do.
 pub fn other_events_leave_the_disk()
     ensures write { (setup : Setup) (c : Cluster) (j k : ℕ) (old new : List Disk) → j ≢ k →
         KeepsAt setup c k (NodeWrites j) old new → new ≡ old }
@@ -109,11 +62,13 @@ pub fn other_events_leave_the_disk()
         (old new : List Disk) → j ≢ k → KeepsAt setup c k (Crashes j image) old new → new ≡ old }
     ensures restart { (setup : Setup) (c : Cluster) (j k : ℕ) (ops : ℕ → ℕ)
         (old new : List Disk) → j ≢ k → KeepsAt setup c k (FindsEach j ops) old new → new ≡ old }
-    ensures queue { (setup : Setup) (c : Cluster) (j k place at session : ℕ) (body : Unstamped)
-        (old new : List Disk) → (KeepsAt setup c k (At place (Ticks j)) old new → new ≡ old)
+    ensures queue { (setup : Setup) (c : Cluster) (j k place at : ℕ) (old new : List Disk) →
+        (KeepsAt setup c k (At place (Ticks j)) old new → new ≡ old)
         × (KeepsAt setup c k (At place (Notices j)) old new → new ≡ old)
-        × (KeepsAt setup c k (At place (Delivers at)) old new → new ≡ old)
-        × (KeepsAt setup c k (At place (Submits session body)) old new → new ≡ old)
+        × (KeepsAt setup c k (At place (Delivers at)) old new → new ≡ old) }
+    ensures client { (setup : Setup) (c : Cluster) (k place session : ℕ) (body : Unstamped)
+        (old new : List Disk) →
+        (KeepsAt setup c k (At place (Submits session body)) old new → new ≡ old)
         × (KeepsAt setup c k (Alike (EndsEach session)) old new → new ≡ old) }
 {}
 
@@ -131,34 +86,21 @@ pub fn a_call_keeps_what_was_synced()
     ensures text { (setup : Setup) (c last : Cluster) (done : List ClusterEvent) (a b : ℕ → Seen)
         (before later : Outcome) →
         Serves setup c (λ events. events ≡ done) (λ d. d ≡ last) a b before later →
-        (last ≡ cluster_after c done) × (later.text ≡ before.text ++ text_of setup c done)
-        × (later.takers ≡ takers_after setup c done before.takers) }
+        StandsAfter setup c done last before later }
     ensures faults { (setup : Setup) (c last : Cluster) (done : List ClusterEvent) (a b : ℕ → Seen)
         (before later : Outcome) (k : ℕ) →
         Serves setup c (λ events. events ≡ done) (λ d. d ≡ last) a b before later →
-        ((image : Image) → Contains done (Crashes k image) → ⊥)
-        × ((a k).faults ≤ (b k).faults) × (Contains done (Fails k) →
-        ((a k).faults < (b k).faults) ⊎ ((b k).faults ≡ 2 ^ 64 - 1)) }
+        IsNeverCrashed k done × CountsFaults k done (a k) (b k) }
     ensures disks { (setup : Setup) (c last : Cluster) (done : List ClusterEvent) (a b : ℕ → Seen)
         (before later : Outcome) (k : ℕ) →
         Serves setup c (λ events. events ≡ done) (λ d. d ≡ last) a b before later →
-        ((b k).tells ≡ (a k).tells) × (Contains setup.nodes k → IsTrue (a k).tells →
-        IsLinked setup c k (now (a k).past) →
-        IsTracedAt setup c k done (a k).past (b k).past) }
+        TracesOn setup c done k (a k) (b k) }
     ensures happened { (setup : Setup) (c last : Cluster) (done : List ClusterEvent)
         (a b : ℕ → Seen) (before later : Outcome) (k : ℕ) →
         Happened setup c (λ events. events ≡ done) (λ d. d ≡ last) a b before later →
-        (last ≡ cluster_after c done) × (later.text ≡ before.text ++ text_of setup c done)
-        × (later.takers ≡ takers_after setup c done before.takers)
-        × ((b k).tells ≡ (a k).tells) × (Contains setup.nodes k → IsTrue (a k).tells →
-        IsLinked setup c k (now (a k).past) →
-        IsTracedAt setup c k done (a k).past (b k).past) }
+        StandsAfter setup c done last before later × TracesOn setup c done k (a k) (b k) }
     ensures given_up { (setup : Setup) (c : Cluster) (a b : ℕ → Seen) → GivesUp setup c a b →
-        (events : List ClusterEvent) × ((k : ℕ) →
-        ((image : Image) → Contains events (Crashes k image) → ⊥)
-        × ((b k).tells ≡ (a k).tells) × ((a k).faults ≤ (b k).faults)
-        × (Contains setup.nodes k → IsTrue (a k).tells → IsLinked setup c k (now (a k).past) →
-        IsBrokenAt setup c k events (a k).past (b k).past)) }
+        (events : List ClusterEvent) × ((k : ℕ) → BreaksOffOn setup c events k (a k) (b k)) }
     ensures leads { (c : Cluster) (events late all : List ClusterEvent) →
         Leads (λ d es. es ≡ late) (λ d es. es ≡ all) c events → events ++ late ≡ all }
 {}

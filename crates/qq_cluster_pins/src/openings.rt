@@ -1,25 +1,22 @@
 //! Laws of what comes of an opening and of a line where nothing fails: the functions do nothing, and their contracts
 //! are the laws.
-ghost use Rattle.std.specs.Prelude.{◌≡◌, ◌≢◌, ◌≤◌, ◌+◌, ◌∷◌, [], ℕ, List, None, Some, true, false, length};
-ghost use Rattle.qq_base.specs.declared.ids.NodeId.{NodeId};
+ghost use Rattle.std.specs.Prelude.{◌≡◌, ◌∷◌, [], ℕ, List, None, false};
 ghost use Rattle.qq_base.specs.declared.ids.QueueId.{QueueId};
 ghost use Rattle.qq_base.specs.declared.ids.SessionId.{SessionId};
 ghost use Rattle.qq_entry.specs.Message.{new_message};
 ghost use Rattle.qq_entry.specs.declared.command.Unstamped.{Unstamped};
 ghost use Rattle.qq_entry.specs.declared.command.Unstamped.TheVariants.{Enqueue};
-ghost use Rattle.qq_raft_model.specs.declared.peer.Peer.{Peer};
-ghost use Rattle.qq_raft_model.specs.Group.{has_node};
-ghost use Rattle.qq_raft_model.specs.Server.{is_ready};
-ghost use Rattle.qq_raft_model.specs.State.{Server};
 ghost use Rattle.qq_raft_protocol.specs.Facts.{In};
 ghost use Rattle.qq_script_lines.specs.declared.line.ScriptLine.TheVariants.{Client, Publish, Send};
-ghost use Rattle.qq_cluster_model.specs.Cluster.{ClusterEvent, Setup, cluster_after, new_cluster};
-ghost use Rattle.qq_cluster_model.specs.ClusterLaws.{HasGroups, has_failure};
+ghost use Rattle.qq_cluster_model.specs.Cluster.{ClusterEvent, Setup, new_cluster};
+ghost use Rattle.qq_cluster_model.specs.ClusterLaws.{has_failure};
 ghost use Rattle.qq_cluster_model.specs.Example.{setup_of};
 ghost use Rattle.qq_cluster_model.specs.Queue.{leader};
-ghost use Rattle.qq_cluster_model.specs.Rules.{IsOpening, is_idle};
-ghost use Rattle.qq_cluster_progress_laws.specs.Opened.{AreNewGroups};
+ghost use Rattle.qq_cluster_model.specs.Rules.{IsOpening};
+ghost use Rattle.qq_cluster_progress_laws.specs.Opened.{AreNewGroups, IsNewSetup};
 ghost use Rattle.qq_cluster_progress_laws.specs.Soon.{AreNodes, AreOnce, GivesOne};
+ghost use Rattle.qq_cluster_pins.specs.Left.{cluster_of};
+ghost use Rattle.qq_cluster_pins.specs.Served.{HasOneLog};
 
 use qq_cluster_progress_laws::an_opening_gives_each_queue_a_leader;
 
@@ -27,19 +24,9 @@ use qq_cluster_progress_laws::an_opening_gives_each_queue_a_leader;
 /// first member leads and takes commands. Each member is up, its log is the leader's, and its term no later; the leader
 /// sends each other member the entry after its last one next.
 pub fn an_opening_leaves_one_log()
-    ensures { (setup : Setup) (events : List ClusterEvent) (place : ℕ) → HasGroups setup →
-        AreOnce setup.places → AreOnce setup.nodes → AreNodes setup → AreNewGroups setup →
+    ensures { (setup : Setup) (events : List ClusterEvent) (place : ℕ) → IsNewSetup setup →
         IsOpening setup (new_cluster setup) events → has_failure events ≡ false →
-        In place setup.places → let c = cluster_after (new_cluster setup) events in
-        let g = (c.queue place).group in
-        (first : NodeId) × (others : List NodeId) × (s : Server)
-        × (is_idle setup c ≡ true) × ((k : ℕ) → In k setup.nodes → c.up k ≡ true)
-        × ((setup.group place).nodes ≡ first ∷ others)
-        × (leader g ≡ Some first.0) × ((g.seat first.0).server ≡ Some s) × (is_ready s ≡ true)
-        × ((j : ℕ) → has_node j (setup.group place).nodes ≡ true → (t : Server)
-        × (c.up j ≡ true) × ((g.seat j).server ≡ Some t) × (t.log ≡ s.log)
-        × (t.term.0 ≤ s.term.0) × ((x : Peer) → j ≢ first.0 → In x s.peers → x.node.0 ≡ j →
-        x.next ≡ length s.log + 1)) }
+        In place setup.places → HasOneLog setup (cluster_of setup events) place }
 {
     an_opening_gives_each_queue_a_leader();
 }

@@ -1,16 +1,18 @@
 //! Laws of what a rule allows and of how commands are counted: the functions do nothing, and their contracts are the
 //! laws.
-ghost use Rattle.std.specs.Prelude.{◌≡◌, ◌⊎◌, ◌≤◌, ◌<◌, ◌+◌, ◌∷◌, [], ℕ, List, Some, None, true, false, Contains, filter_map, length, slice_get};
+ghost use Rattle.std.specs.Prelude.{◌≡◌, ◌⊎◌, ◌≤◌, ◌<◌, ◌+◌, ◌∷◌, [], ℕ, List, Some, true, false, Contains, filter_map, length, slice_get};
 ghost use Rattle.qq_base.specs.Ids.{client};
 ghost use Rattle.qq_entry.specs.declared.queue.QueueArgs.{QueueArgs};
 ghost use Rattle.qq_laws.specs.Numbers.{fresh_number};
 ghost use Rattle.qq_model.specs.Audit.{audit_of};
 ghost use Rattle.qq_model.specs.State.{empty_queue};
-ghost use Rattle.qq_raft_model.specs.Group.{Group, has_node};
+ghost use Rattle.qq_raft_model.specs.Group.{Group};
 ghost use Rattle.qq_raft_model.specs.State.{Server};
-ghost use Rattle.qq_cluster_model.specs.Cluster.{At, Cluster, ClusterEvent, Fails, FindsEach, NodeSyncs, NodeWrites, Setup};
-ghost use Rattle.qq_cluster_model.specs.Queue.{Event, Notices, after, begin, happens};
+ghost use Rattle.qq_cluster_model.specs.Cluster.{Cluster, ClusterEvent, Fails, FindsEach, NodeWrites, Setup};
+ghost use Rattle.qq_cluster_model.specs.Queue.{Event, after, begin};
 ghost use Rattle.qq_cluster_model.specs.Rules.{IsNotice, IsRestart, IsSync, IsWrite};
+ghost use Rattle.qq_cluster_pins.specs.Left.{server_of, ops_of};
+ghost use Rattle.qq_cluster_pins.specs.Served.{FindsNoticed, SyncsOrFails, NoticesAndAsks};
 
 use qq_cluster_model::sessions_go_on;
 
@@ -24,12 +26,7 @@ pub fn a_restart_finds_what_was_noticed()
         c.up k ≡ true → IsRestart setup k c events → events ≡ [] }
     ensures down { (setup : Setup) (k : ℕ) (c : Cluster) (events : List ClusterEvent) →
         c.up k ≡ false → IsRestart setup k c events → (events ≡ Fails k ∷ [])
-        ⊎ ((ops : ℕ → ℕ) × (events ≡ FindsEach k ops ∷ [])
-        × ((place : ℕ) → Contains setup.places place →
-        has_node k (c.queue place).group.nodes ≡ true →
-        (((c.queue place).group.seat k).server ≡ None)
-        × (((c.queue place).group.seat k).noticed ≤ ops place)
-        × (ops place ≤ length ((c.queue place).group.seat k).ops))) }
+        ⊎ ((ops : ℕ → ℕ) × (events ≡ FindsEach k ops ∷ []) × FindsNoticed setup c k ops) }
 {}
 
 /// A law: what happens at a write, a sync and a notice of a node that is up, and where its disk may fail.
@@ -45,28 +42,22 @@ pub fn a_restart_finds_what_was_noticed()
 pub fn a_disk_fails_where_it_is_called()
     ensures writes { (setup : Setup) (k place : ℕ) (c : Cluster) (s : Server)
         (events : List ClusterEvent) → c.up k ≡ true → Contains setup.places place →
-        ((c.queue place).group.seat k).server ≡ Some s → 0 < length s.ops →
-        IsWrite setup k c events →
+        server_of c k place ≡ Some s → 0 < length s.ops → IsWrite setup k c events →
         (events ≡ NodeWrites k ∷ []) ⊎ (events ≡ NodeWrites k ∷ Fails k ∷ []) }
     ensures nothing { (setup : Setup) (k : ℕ) (c : Cluster) (events : List ClusterEvent) →
         ((place : ℕ) (s : Server) → Contains setup.places place →
-        ((c.queue place).group.seat k).server ≡ Some s → s.ops ≡ []) →
-        IsWrite setup k c events → events ≡ [] }
+        server_of c k place ≡ Some s → s.ops ≡ []) → IsWrite setup k c events → events ≡ [] }
     ensures syncs { (setup : Setup) (k place : ℕ) (c : Cluster) (events : List ClusterEvent) →
         c.up k ≡ true → Contains setup.places place →
-        (c.queue place).synced k < length ((c.queue place).group.seat k).ops →
-        IsSync setup k c events → (events ≡ NodeSyncs k ∷ [])
-        ⊎ ((events ≡ Fails k ∷ []) ⊎ (events ≡ NodeSyncs k ∷ Fails k ∷ [])) }
+        (c.queue place).synced k < length (ops_of c k place) → IsSync setup k c events →
+        SyncsOrFails k events }
     ensures rolls { (setup : Setup) (k : ℕ) (c : Cluster) (events : List ClusterEvent) →
         ((place : ℕ) → Contains setup.places place →
-        length ((c.queue place).group.seat k).ops ≤ (c.queue place).synced k) →
-        IsSync setup k c events → (events ≡ []) ⊎ (events ≡ Fails k ∷ []) }
+        length (ops_of c k place) ≤ (c.queue place).synced k) → IsSync setup k c events →
+        (events ≡ []) ⊎ (events ≡ Fails k ∷ []) }
     ensures notices { (k place : ℕ) (c : Cluster) (events : List ClusterEvent) → c.up k ≡ true →
         ((c.queue place).group.seat k).noticed < (c.queue place).synced k →
-        IsNotice k place c events → (asked : List ClusterEvent)
-        × (events ≡ At place (Notices k) ∷ asked)
-        × ((happens (c.queue place) (Notices k)).untold ≡ [] → asked ≡ [])
-        × ((j : ℕ) → Contains asked (Fails j) → ⊥) }
+        IsNotice k place c events → NoticesAndAsks k place (c.queue place) events }
     ensures noticed { (k place : ℕ) (c : Cluster) (events : List ClusterEvent) →
         (c.queue place).synced k ≤ ((c.queue place).group.seat k).noticed →
         IsNotice k place c events → events ≡ [] }

@@ -1,15 +1,13 @@
 //! Laws of what takers see, and of what is left between lines: the functions do nothing, and their contracts are the
 //! laws.
-ghost use Rattle.std.specs.Prelude.{◌≡◌, ◌≢◌, ◌++◌, ◌∷◌, [], ℕ, List, Option, Some, None, true, false, Contains, drop, filter_map, find, length, map, take};
-ghost use Rattle.qq_base.specs.Ids.{client, same_consumer};
+ghost use Rattle.std.specs.Prelude.{◌≡◌, ◌++◌, ◌∷◌, [], ℕ, List, Option, Some, None, true, false, filter_map};
+ghost use Rattle.qq_base.specs.Ids.{client};
 ghost use Rattle.qq_base.specs.declared.ids.ConsumerId.{ConsumerId};
-ghost use Rattle.qq_base.specs.declared.ids.QueueId.{QueueId};
 ghost use Rattle.qq_entry.specs.declared.answer.Delivery.{Delivery};
 ghost use Rattle.qq_entry.specs.declared.audit.AuditRow.{AuditRow};
 ghost use Rattle.qq_entry.specs.declared.queue.QueueArgs.{QueueArgs};
-ghost use Rattle.qq_model.specs.Audit.{audit_of, deliveries};
 ghost use Rattle.qq_model.specs.Limits.{is_ready};
-ghost use Rattle.qq_model.specs.State.{State, empty_queue};
+ghost use Rattle.qq_model.specs.State.{State};
 ghost use Rattle.qq_model.specs.declared.consumer.Consumer.{Consumer};
 ghost use Rattle.qq_model.specs.declared.place.Row.{Row};
 ghost use Rattle.qq_raft_model.specs.State.{Server};
@@ -21,16 +19,17 @@ ghost use Rattle.qq_taker.specs.declared.handed.Handed.{Handed};
 ghost use Rattle.qq_taker.specs.declared.heard.Heard.{Heard};
 ghost use Rattle.qq_taker.specs.declared.heard.Refusal.TheVariants as refusals;
 ghost use Rattle.qq_taker.specs.declared.heard.What.TheVariants as whats;
-ghost use Rattle.qq_taker.specs.declared.seats.Seat.{Seat};
 ghost use Rattle.qq_taker.specs.declared.taker.Seen.{Seen};
 ghost use Rattle.qq_taker.specs.declared.taker.Verdict.{Verdict};
 ghost use Rattle.qq_taker.specs.declared.taker.Verdict.TheVariants.{Discard, Keep, Settle};
-ghost use Rattle.qq_cluster_model.specs.Cluster.{At, Busy, Cluster, ClusterEvent, Ended, IsDown, NoSuch, Of, Setup, State as StateOf, Stopped, Unroutable, cluster_after, new_cluster};
+ghost use Rattle.qq_cluster_model.specs.Cluster.{At, Busy, Cluster, ClusterEvent, Ended, IsDown, NoSuch, Of, Printed, Setup, State as StateOf, Stopped, Unroutable, cluster_after, new_cluster};
 ghost use Rattle.qq_cluster_model.specs.Counts.{counts_of};
 ghost use Rattle.qq_cluster_model.specs.Laws.{IsBegun, deliveries_shown, seen_by};
 ghost use Rattle.qq_cluster_model.specs.Lines.{IsLine, IsRun};
 ghost use Rattle.qq_cluster_model.specs.Outcome.{all_heard, deliveries_among, sees, sees_all, takers_after};
-ghost use Rattle.qq_cluster_model.specs.Queue.{Attaches, Event, after, all_said, begin, said};
+ghost use Rattle.qq_cluster_model.specs.Queue.{Attaches, Event, after, begin, consumer_of, said};
+ghost use Rattle.qq_cluster_pins.specs.Asked.{IsNew, SeesRun, seen_as, SeesNothing, heard_of};
+ghost use Rattle.qq_taker.specs.declared.heard.What.{What};
 
 use qq_cluster_model::{nothing_waits_between_lines, takers_see_runs_of_deliveries};
 use qq_taker::{
@@ -44,35 +43,36 @@ use qq_taker::{
 /// - `told`, `answered`, `refused`: no taker sees a delivery to a consumer without one, an answer, or that a command
 ///   wasn't given to a leader.
 /// - `same`: nor that a consumer has a taker, which nobody hears either.
-/// - `unheard`: where nobody listens, what is told leaves all as it was.
+/// - `unheard`, `unrefused`: where nobody listens, what is told leaves all as it was.
 /// - `event`, `later`: what an event of a queue shows, they see, and what comes later after that.
 /// - `none`: they see nothing at any other event.
 pub fn takers_see_what_is_shown()
     ensures given { (all : Takers) (place session number : ℕ) (seen : Option (List Seen)) →
         taker_at number all ≡ Some (Free seen) →
         taker_at number (sees place (Attached session number) all) ≡ Some (Given seen) }
-    ensures taken { (all : Takers) (place number : ℕ) (seen : List Seen) (consumer : ConsumerId)
+    ensures taken { (all : Takers) (place number : ℕ) (seen : List Seen) (id : ConsumerId)
         (d : Delivery) (verdict : Verdict) → taker_at number all ≡ Some (Given (Some seen)) →
-        taker_at number (sees place (Taken number consumer d verdict) all) ≡ Some (Given (Some
-        (seen ++ record { id = d.id; arrival = d.arrival; verdict = verdict } ∷ []))) }
+        taker_at number (sees place (Taken number id d verdict) all)
+        ≡ Some (Given (Some (seen ++ seen_as d verdict ∷ []))) }
     ensures dropped { (all : Takers) (place session number : ℕ) (held : Held) →
         taker_at number all ≡ Some held →
         taker_at number (sees place (Dropped session number) all) ≡ Some Gone }
     ensures told { (all : Takers) (place number : ℕ) (consumer : ConsumerId) (d : Delivery) →
-        taker_at number (sees place (Delivered consumer d) all) ≡ taker_at number all }
+        SeesNothing number place (Delivered consumer d) all }
     ensures answered { (all : Takers) (place number : ℕ) (row : AuditRow) →
-        taker_at number (sees place (Answered row) all) ≡ taker_at number all }
+        SeesNothing number place (Answered row) all }
     ensures refused { (all : Takers) (place number session id : ℕ) →
-        (taker_at number (sees place (NoLeader session) all) ≡ taker_at number all)
-        × (taker_at number (sees place (WindowFull session) all) ≡ taker_at number all)
-        × (taker_at number (sees place (HasEnded session) all) ≡ taker_at number all)
-        × (taker_at number (sees place (NotTaken session id) all) ≡ taker_at number all) }
+        SeesNothing number place (NoLeader session) all
+        × SeesNothing number place (WindowFull session) all
+        × SeesNothing number place (HasEnded session) all
+        × SeesNothing number place (NotTaken session id) all }
     ensures same { (all : Takers) (place session number : ℕ) →
         sees place (IsBusy session number) all ≡ all }
-    ensures unheard { (all : Takers) (place session id : ℕ) (row : AuditRow) (d : Delivery)
-        (consumer : ConsumerId) → all.heard ≡ None →
-        (sees place (Answered row) all ≡ all) × (sees place (Delivered consumer d) all ≡ all)
-        × (sees place (NoLeader session) all ≡ all) × (sees place (WindowFull session) all ≡ all)
+    ensures unheard { (all : Takers) (place : ℕ) (row : AuditRow) (d : Delivery)
+        (consumer : ConsumerId) → all.heard ≡ None → (sees place (Answered row) all ≡ all)
+        × (sees place (Delivered consumer d) all ≡ all) }
+    ensures unrefused { (all : Takers) (place session id : ℕ) → all.heard ≡ None →
+        (sees place (NoLeader session) all ≡ all) × (sees place (WindowFull session) all ≡ all)
         × (sees place (HasEnded session) all ≡ all)
         × (sees place (NotTaken session id) all ≡ all) }
     ensures event { (setup : Setup) (c : Cluster) (place : ℕ) (event : Event) (all : Takers) →
@@ -92,38 +92,38 @@ pub fn takers_see_what_is_shown()
 
 /// A law: what who listens hears.
 ///
-/// - `told`: answers, deliveries to consumers without a taker, and that commands weren't given to a leader, each with
-///   its queue, in the order in which they are printed.
+/// - `told`, `refused`, `ended`: answers, deliveries to consumers without a taker, and that commands weren't given to a
+///   leader, each with its queue.
+/// - `order`: in the order in which they are printed.
 /// - `one`: after what was heard before.
 /// - `none`: nothing of takers, nor what is printed of no queue's clients.
 /// - `deliveries`: the deliveries among what was heard, in order.
 pub fn who_listens_hears_answers_deliveries_and_refusals()
     ensures told { (row : AuditRow) (consumer : ConsumerId) (d : Delivery) →
-        all_heard (Of 3 (Answered row) ∷ Of 4 (Delivered consumer d) ∷ Of 3 (NoLeader 5)
-        ∷ Of 3 (WindowFull 6) ∷ Of 3 (HasEnded 7) ∷ Of 3 (NotTaken 8 9) ∷ [])
-        ≡ record { queue = record { 0 = 3 }; what = whats.Answer row }
-        ∷ record {
-          queue = record { 0 = 4 };
-          what = whats.Delivery (record { consumer = consumer; delivery = d });
-        }
-        ∷ record { queue = record { 0 = 3 }; what = whats.Refused 5 refusals.NoLeader }
-        ∷ record { queue = record { 0 = 3 }; what = whats.Refused 6 refusals.WindowFull }
-        ∷ record { queue = record { 0 = 3 }; what = whats.Refused 7 refusals.Ended }
-        ∷ record { queue = record { 0 = 3 }; what = whats.Refused 8 (refusals.NotTaken 9) }
-        ∷ [] }
+        all_heard (Of 3 (Answered row) ∷ Of 4 (Delivered consumer d) ∷ [])
+        ≡ heard_of 3 (whats.Answer row)
+        ∷ heard_of 4 (whats.Delivery (record { consumer = consumer; delivery = d })) ∷ [] }
+    ensures refused { all_heard (Of 3 (NoLeader 5) ∷ Of 3 (WindowFull 6) ∷ [])
+        ≡ heard_of 3 (whats.Refused 5 refusals.NoLeader)
+        ∷ heard_of 3 (whats.Refused 6 refusals.WindowFull) ∷ [] }
+    ensures ended { all_heard (Of 3 (HasEnded 7) ∷ Of 3 (NotTaken 8 9) ∷ [])
+        ≡ heard_of 3 (whats.Refused 7 refusals.Ended)
+        ∷ heard_of 3 (whats.Refused 8 (refusals.NotTaken 9)) ∷ [] }
+    ensures order { (early late : List Printed) →
+        all_heard (early ++ late) ≡ all_heard early ++ all_heard late }
+    ensures of_queue { (what : What) →
+        heard_of 3 what ≡ record { queue = record { 0 = 3 }; what = what } }
     ensures one { (all : Takers) (list : List Heard) (row : AuditRow) → all.heard ≡ Some list →
-        (sees 3 (Answered row) all).heard
-        ≡ Some (list ++ record { queue = record { 0 = 3 }; what = whats.Answer row } ∷ []) }
-    ensures none { (consumer : ConsumerId) (d : Delivery) (verdict : Verdict)
-        (server : Option Server) →
-        all_heard (Of 3 (Taken 1 consumer d verdict) ∷ Of 3 (Attached 5 1) ∷ Of 3 (Dropped 5 1)
+        (sees 3 (Answered row) all).heard ≡ Some (list ++ heard_of 3 (whats.Answer row) ∷ []) }
+    ensures none { (id : ConsumerId) (d : Delivery) (verdict : Verdict) (server : Option Server) →
+        all_heard (Of 3 (Taken 1 id d verdict) ∷ Of 3 (Attached 5 1) ∷ Of 3 (Dropped 5 1)
         ∷ Of 3 (IsBusy 5 1) ∷ Stopped 1 ∷ IsDown 1 ∷ NoSuch ∷ Unroutable ∷ Busy ∷ Ended
         ∷ StateOf 3 1 server ∷ []) ≡ [] }
-    ensures deliveries { (queue : QueueId) (row : AuditRow) (first second : Handed) →
-        deliveries_among (record { queue = queue; what = whats.Answer row }
-        ∷ record { queue = queue; what = whats.Delivery first }
-        ∷ record { queue = queue; what = whats.Refused 5 refusals.NoLeader }
-        ∷ record { queue = queue; what = whats.Delivery second } ∷ []) ≡ first ∷ second ∷ [] }
+    ensures deliveries { (queue : ℕ) (row : AuditRow) (first second : Handed) →
+        deliveries_among (heard_of queue (whats.Answer row)
+        ∷ heard_of queue (whats.Delivery first)
+        ∷ heard_of queue (whats.Refused 5 refusals.NoLeader)
+        ∷ heard_of queue (whats.Delivery second) ∷ []) ≡ first ∷ second ∷ [] }
 {}
 
 /// A law: what a queue's leader counts: the ready messages, and the consumers that weren't cancelled.
@@ -138,35 +138,25 @@ pub fn counts_are_of_ready_messages_and_consumers()
 
 /// A law: what a taker sees of its consumer's deliveries.
 ///
+/// - `consumer`: a consumer is a client's session and a tag.
 /// - `run`: a taker's number that no consumer of the queue has is given to one without a taker, and is never given
 ///   again. Of all deliveries that the audit has for the consumer the taker sees a run: it
 ///   begins after those that were shown before.
 /// - `seen`: what it sees are the deliveries that are shown with its number, whatever is shown beside.
 /// - `shown`: a delivery to a consumer is shown by itself or with a verdict.
 pub fn a_taker_sees_a_run_of_deliveries()
-    ensures run { (args : QueueArgs) (group : Group) (before since : List Event)
-        (session tag number : ℕ) → IsBegun group →
-        let id : ConsumerId = record { session = client session; tag = tag } in
-        let q = after (begin args group) before in
-        let end = after (begin args group) (before ++ Attaches session tag number ∷ since) in
-        let all = deliveries (empty_queue args) (audit_of (empty_queue end.args) end.group.audit) id in
-        let seen = filter_map (seen_by number) (all_said q (Attaches session tag number ∷ since)) in
-        let early = length (deliveries_shown id (all_said (begin args group) before)) in
-        ((seat : Seat) → Contains q.seats seat → seat.number ≢ number) →
-        find (λ (seat : Seat). same_consumer seat.consumer id) q.seats ≡ None →
-        ((own other : ℕ) → Contains since (Attaches own other number) → ⊥) →
-        (map (λ (one : Seen). one.id) seen
-        ≡ map (λ (one : Delivery). one.id) (take (length seen) (drop early all)))
-        × (map (λ (one : Seen). one.arrival) seen
-        ≡ map (λ (one : Delivery). one.arrival) (take (length seen) (drop early all))) }
+    ensures run { (args : QueueArgs) (g : Group) (before since : List Event)
+        (session tag number : ℕ) → IsBegun g → let new = begin args g in
+        let id = consumer_of session tag in IsNew (after new before) id number since →
+        SeesRun args new before (Attaches session tag number ∷ since) id number }
+    ensures consumer { (session tag : ℕ) →
+        consumer_of session tag ≡ record { session = client session; tag = tag } }
     ensures seen { (consumer other : ConsumerId) (d e : Delivery) →
         filter_map (seen_by 1) (Taken 1 consumer d Settle ∷ Taken 2 consumer d Keep
         ∷ Delivered consumer d ∷ Dropped 1 1 ∷ Taken 1 other e Discard ∷ [])
-        ≡ record { id = d.id; arrival = d.arrival; verdict = Settle }
-        ∷ record { id = e.id; arrival = e.arrival; verdict = Discard } ∷ [] }
+        ≡ seen_as d Settle ∷ seen_as e Discard ∷ [] }
     ensures shown { (d e f : Delivery) →
-        let own : ConsumerId = record { session = client 1; tag = 1 } in
-        let other : ConsumerId = record { session = client 1; tag = 2 } in
+        let own = consumer_of 1 1 in let other = consumer_of 1 2 in
         deliveries_shown own (Delivered own d ∷ Delivered other e ∷ Taken 3 own f Keep
         ∷ Taken 3 other e Keep ∷ Dropped 1 3 ∷ []) ≡ d ∷ f ∷ [] }
 {

@@ -1,23 +1,22 @@
 //! Laws of takers: the functions do nothing, and their contracts are the laws.
-ghost use Rattle.std.specs.Prelude.{◌≡◌, ◌++◌, ◌∷◌, [], ℕ, List, Some, None, true, false, Contains, filter, find, length, map, not};
-ghost use Rattle.qq_base.specs.Ids.{client, same_consumer, same_session};
+ghost use Rattle.std.specs.Prelude.{◌≡◌, ◌++◌, ◌∷◌, [], ℕ, List, Some, None, true, false, Contains, length};
+ghost use Rattle.qq_base.specs.Ids.{same_consumer, same_session};
 ghost use Rattle.qq_base.specs.declared.ids.ConsumerId.{ConsumerId};
 ghost use Rattle.qq_base.specs.declared.ids.SessionId.{SessionId};
 ghost use Rattle.qq_entry.specs.declared.audit.AuditRow.{AuditRow};
 ghost use Rattle.qq_entry.specs.declared.command.Command.TheVariants.{Cancel, Down};
 ghost use Rattle.qq_entry.specs.declared.command.Stamp.{Stamp};
-ghost use Rattle.qq_entry.specs.declared.command.Unstamped.TheVariants.{Discard as DiscardIds, Return as ReturnIds, Settle as SettleIds};
 ghost use Rattle.qq_session.specs.Publishing.{closes};
-ghost use Rattle.qq_session.specs.declared.shown.Shown.TheVariants.{Answered, Attached, Delivered, Dropped, IsBusy, Taken};
+ghost use Rattle.qq_session.specs.declared.shown.Shown.TheVariants.{Answered, Attached, IsBusy, Taken};
 ghost use Rattle.qq_taker.specs.Seats.{sit};
 ghost use Rattle.qq_taker.specs.declared.handed.Handed.{Handed};
 ghost use Rattle.qq_taker.specs.declared.seats.Seat.{Seat};
 ghost use Rattle.qq_taker.specs.declared.taker.Verdict.{Verdict};
-ghost use Rattle.qq_taker.specs.declared.taker.Verdict.TheVariants.{Discard, Keep, Return, Settle};
-ghost use Rattle.qq_cluster_model.specs.Cluster.{At, Cluster, ClusterEvent, cluster_after, cluster_happens};
-ghost use Rattle.qq_cluster_model.specs.Queue.{Attaches, Event, Judges, Queue, happens, said};
-ghost use Rattle.qq_cluster_model.specs.Rules.{IsGiven, IsNextJudged, IsTold, Tells, Times};
+ghost use Rattle.qq_cluster_model.specs.Cluster.{At, Cluster, ClusterEvent, cluster_happens};
+ghost use Rattle.qq_cluster_model.specs.Queue.{Attaches, Event, Judges, Queue, consumer_of, happens, said};
+ghost use Rattle.qq_cluster_model.specs.Rules.{IsTold, Tells};
 ghost use Rattle.qq_cluster_model.specs.Taking.{answers, seated, told_of, told_then, waiting_of, waiting_then};
+ghost use Rattle.qq_cluster_pins.specs.Asked.{AsksFirst, seat_of, shown_each, DropsThese};
 
 /// A law: what is handed out is told up to the first delivery whose consumer has a taker, and the others wait.
 ///
@@ -28,12 +27,10 @@ pub fn deliveries_wait_for_takers()
     ensures all { (seats : List Seat) (new : List Handed) →
         told_of seats new ++ waiting_of seats new ≡ new }
     ensures told { (seats : List Seat) (new : List Handed) (h : Handed) →
-        Contains (told_of seats new) h →
-        find (λ (seat : Seat). same_consumer seat.consumer h.consumer) seats ≡ None }
+        Contains (told_of seats new) h → seat_of seats h.consumer ≡ None }
     ensures waits { (seats : List Seat) (new more : List Handed) (h : Handed) →
-        waiting_of seats new ≡ h ∷ more →
-        (seat : Seat) × (find (λ (one : Seat). same_consumer one.consumer h.consumer) seats
-        ≡ Some seat) }
+        waiting_of seats new ≡ h ∷ more → (seat : Seat)
+        × (seat_of seats h.consumer ≡ Some seat) }
     ensures first { (seats : List Seat) (new : List Handed) →
         (told_then [] seats new ≡ told_of seats new)
         × (waiting_then [] seats new ≡ waiting_of seats new) }
@@ -57,18 +54,7 @@ pub fn takers_are_asked_until_nothing_waits()
         (c.queue place).untold ≡ [] → IsTold place c events → events ≡ [] }
     ensures first { (place : ℕ) (c : Cluster) (events : List ClusterEvent) (h : Handed)
         (more : List Handed) → (c.queue place).untold ≡ h ∷ more → IsTold place c events →
-        (verdict : Verdict) × (given : List ClusterEvent) × (late : List ClusterEvent)
-        × (d : Cluster) × (d ≡ cluster_happens c (At place (Judges verdict)))
-        × (events ≡ At place (Judges verdict) ∷ given ++ late)
-        × (verdict ≡ Settle → IsGiven h.consumer.session.number
-        (SettleIds h.consumer.tag (h.delivery.id ∷ [])) place d given)
-        × (verdict ≡ Return → IsGiven h.consumer.session.number
-        (ReturnIds h.consumer.tag (h.delivery.id ∷ [])) place d given)
-        × (verdict ≡ Discard → IsGiven h.consumer.session.number
-        (DiscardIds h.consumer.tag (h.delivery.id ∷ [])) place d given)
-        × (verdict ≡ Keep → given ≡ [])
-        × (e : Cluster) × (e ≡ cluster_after d given)
-        × Times (length more) (IsNextJudged place) e late }
+        AsksFirst place c h (length more) events }
 {}
 
 /// A law: what a verdict shows, and what it changes.
@@ -77,10 +63,9 @@ pub fn takers_are_asked_until_nothing_waits()
 /// - `changes`: what waits, and nothing else of the queue.
 pub fn a_verdict_is_told()
     ensures shows { (q : Queue) (h : Handed) (more : List Handed) (seat : Seat)
-        (verdict : Verdict) → q.untold ≡ h ∷ more →
-        find (λ (one : Seat). same_consumer one.consumer h.consumer) q.seats ≡ Some seat →
+        (verdict : Verdict) → q.untold ≡ h ∷ more → seat_of q.seats h.consumer ≡ Some seat →
         said q (Judges verdict) ≡ Taken seat.number h.consumer h.delivery verdict
-        ∷ map (λ (one : Handed). Delivered one.consumer one.delivery) (told_of q.seats more) }
+        ∷ shown_each (told_of q.seats more) }
     ensures changes { (q : Queue) (h : Handed) (more : List Handed) (verdict : Verdict) →
         q.untold ≡ h ∷ more →
         happens q (Judges verdict) ≡ record q { untold = waiting_of q.seats more } }
@@ -92,15 +77,13 @@ pub fn a_verdict_is_told()
 /// - `busy`: one that has one is told its number.
 /// - `order`: the seats are in the order of their tags.
 pub fn takers_are_given()
-    ensures given { (q : Queue) (session tag number : ℕ) →
-        let id : ConsumerId = record { session = client session; tag = tag } in
-        find (λ (seat : Seat). same_consumer seat.consumer id) q.seats ≡ None →
+    ensures given { (q : Queue) (session tag number : ℕ) → let id = consumer_of session tag in
+        seat_of q.seats id ≡ None →
         (said q (Attaches session tag number) ≡ Attached session number ∷ [])
         × ((happens q (Attaches session tag number)).seats
         ≡ sit (record { consumer = id; number = number }) q.seats) }
     ensures busy { (q : Queue) (session tag number : ℕ) (seat : Seat) →
-        let id : ConsumerId = record { session = client session; tag = tag } in
-        find (λ (one : Seat). same_consumer one.consumer id) q.seats ≡ Some seat →
+        seat_of q.seats (consumer_of session tag) ≡ Some seat →
         (said q (Attaches session tag number) ≡ IsBusy session seat.number ∷ [])
         × ((happens q (Attaches session tag number)).seats ≡ q.seats) }
     ensures order { (one two three : Seat) → one.consumer.tag ≡ 1 → two.consumer.tag ≡ 2 →
@@ -119,18 +102,10 @@ pub fn takers_are_dropped_at_answers()
     ensures cancel { (seats : List Seat) (row : AuditRow) (stamp : Stamp) (tag : ℕ) →
         let id : ConsumerId = record { session = stamp.session; tag = tag } in
         row.entry.command ≡ Cancel stamp tag → closes row.answer ≡ true →
-        (answers seats (row ∷ []) ≡ Answered row
-        ∷ map (λ (seat : Seat). Dropped seat.consumer.session.number seat.number)
-        (filter (λ (seat : Seat). same_consumer seat.consumer id) seats))
-        × (seated seats (row ∷ [])
-        ≡ filter (λ (seat : Seat). not (same_consumer seat.consumer id)) seats) }
+        DropsThese seats row (λ (seat : Seat). same_consumer seat.consumer id) }
     ensures down { (seats : List Seat) (row : AuditRow) (session : SessionId) →
         row.entry.command ≡ Down session → closes row.answer ≡ true →
-        (answers seats (row ∷ []) ≡ Answered row
-        ∷ map (λ (seat : Seat). Dropped seat.consumer.session.number seat.number)
-        (filter (λ (seat : Seat). same_session seat.consumer.session session) seats))
-        × (seated seats (row ∷ [])
-        ≡ filter (λ (seat : Seat). not (same_session seat.consumer.session session)) seats) }
+        DropsThese seats row (λ (seat : Seat). same_session seat.consumer.session session) }
     ensures open { (seats : List Seat) (row : AuditRow) → closes row.answer ≡ false →
         (answers seats (row ∷ []) ≡ Answered row ∷ []) × (seated seats (row ∷ []) ≡ seats) }
     ensures others { (seats : List Seat) (row : AuditRow) →

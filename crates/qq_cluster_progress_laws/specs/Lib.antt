@@ -2,3 +2,4 @@ pub mod Rounds
 pub mod Alone
 pub mod Soon
 pub mod Opened
+pub mod First

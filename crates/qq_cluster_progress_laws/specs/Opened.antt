@@ -8,8 +8,9 @@ use Rattle.qq_raft_model.specs.Promises.{members_of}
 use Rattle.qq_raft_model.specs.Server.{is_ready}
 use Rattle.qq_raft_model.specs.State.{Server}
 use Rattle.qq_cluster_model.specs.Cluster.{Cluster, Setup, members}
+use Rattle.qq_cluster_model.specs.ClusterLaws.{HasGroups}
 use Rattle.qq_cluster_model.specs.Rules.{is_idle}
-use Rattle.qq_cluster_progress_laws.specs.Soon.{HasItsLog, LeadsMost}
+use Rattle.qq_cluster_progress_laws.specs.Soon.{AreNodes, AreOnce, HasItsLog, LeadsMost}
 
 -- a group of one member or more, all of whose logs are new
 pub record IsNewGroup (group : Group) : Type 0 where
@@ -20,6 +21,14 @@ pub record IsNewGroup (group : Group) : Type 0 where
 
 abbrev pub AreNewGroups : Setup → Type 0
 AreNewGroups setup = (place : ℕ) → In place setup.places → IsNewGroup (setup.group place)
+
+-- a setup over new disks: no queue and no node is there twice, members are nodes, and all logs are new
+pub record IsNewSetup (setup : Setup) : Type 0 where
+  pub groups : HasGroups setup
+  pub places_once : AreOnce setup.places
+  pub nodes_once : AreOnce setup.nodes
+  pub nodes : AreNodes setup
+  pub new : AreNewGroups setup
 
 -- A queue's first member is its leader, which takes commands. All members are up with its log, and none has a later
 -- term: so a command that it is given is committed soon.

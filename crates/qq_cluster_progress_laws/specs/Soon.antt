@@ -21,7 +21,7 @@ use Rattle.qq_session.specs.declared.shown.Shown.TheVariants.{Answered}
 use Rattle.qq_cluster_model.specs.Cluster.{Setup, Cluster, ClusterEvent, At, Of, all_prints, cluster_after, members}
 use Rattle.qq_cluster_model.specs.Lines.{publish_with}
 use Rattle.qq_cluster_model.specs.Queue.{Queue, Submits, audit_rows, leader}
-use Rattle.qq_cluster_model.specs.Rules.{Is, Then, is_ended, not_taken}
+use Rattle.qq_cluster_model.specs.Rules.{Is, Then, is_ended, is_idle, not_taken}
 use Rattle.qq_cluster_progress_laws.specs.Rounds.{Rounds}
 
 -- ---- setups
@@ -89,6 +89,21 @@ abbrev pub IsNewTo : ℕ → Group → Type 0
 IsNewTo session group =
     (before : List Entry) (e : Entry) → WasLeft group before e → (by : Stamp) → stamp e.command ≡ Some by
     → by.session ≢ client session
+
+-- Nothing is left to do in the whole cluster, whose lines pump. A queue's leader takes commands, a majority of its members
+-- has its log, and nobody is asked for a verdict. A line gives the queue one command, of a session that is new to it.
+pub record MayCommitSoon (setup : Setup) (c : Cluster) (line : ScriptLine) (session place : ℕ) (given : Unstamped) (k : ℕ)
+    (s : Server) : Type 0 where
+  pub once : AreOnce setup.places
+  pub nodes : AreNodes setup
+  pub within : In place setup.places
+  pub new : IsNewTo session (setup.group place)
+  pub auto : c.auto ≡ true
+  pub idle : is_idle setup c ≡ true
+  pub leads : LeadsMost setup c place k s
+  pub waits : WaitsForNoTaker (c.queue place) s
+  pub may : MayGive session given (c.queue place)
+  pub gives : GivesOne setup line session place given
 
 -- ---- what comes of it
 

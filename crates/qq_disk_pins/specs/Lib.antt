@@ -3,3 +3,4 @@ pub mod Images
 pub mod Runs
 pub mod Told
 pub mod WornDisk
+pub mod Given

@@ -1,5 +1,5 @@
 //! Laws of the calls that write to the log: the functions do nothing, and their contracts are the laws.
-ghost use Rattle.std.specs.Prelude.{◌≡◌, ◌≤◌, ◌<◌, ◌+◌, ◌*◌, ◌⊎◌, ℕ, true, false, List, length, take, nat_le, Contains, Some};
+ghost use Rattle.std.specs.Prelude.{◌≡◌, ◌<◌, ◌+◌, ◌*◌, ℕ, true, false, List, length, take, nat_le, Contains};
 ghost use Rattle.qq_base.specs.declared.ids.QueueId.{QueueId};
 ghost use Rattle.qq_base.specs.Fronts.{IsFront};
 ghost use Rattle.qq_disk.specs.declared.name.FileKind.{FileKind};
@@ -11,9 +11,7 @@ ghost use Rattle.qq_log.specs.Stable.{stable};
 ghost use Rattle.qq_wal_chain.specs.Lanes.{of_queue};
 ghost use Rattle.qq_wal_chain.specs.Laws.{op_records};
 ghost use Rattle.qq_wal.specs.Batch.{encodings};
-ghost use Rattle.qq_wal.specs.declared.ranges.QueueRanges.{QueueRanges};
 ghost use Rattle.qq_wal.specs.declared.wal.Wal.{Wal};
-ghost use Rattle.qq_wal.specs.Entries.{LieAs};
 ghost use Rattle.qq_wal.specs.Marks.{carries_in};
 ghost use Rattle.qq_wal.specs.Notices.{notices_in, synced_in};
 ghost use Rattle.qq_wal.specs.Numbers.{number_of};
@@ -21,6 +19,7 @@ ghost use Rattle.qq_wal.specs.Ranges.{in_file, ranges_in};
 ghost use Rattle.qq_wal.specs.Sweep.{IsReplaced, files_named};
 ghost use Rattle.qq_wal.specs.Wal.{Appends, IsRolled, IsSound, SameFile, carries_ahead, is_full};
 ghost use Rattle.qq_disk_pins.specs.Batches.{AllKeepWithin, files_after};
+ghost use Rattle.qq_disk_pins.specs.Given.{IsWhatFits, LieIn};
 
 use qq_disk::NodeDisk;
 use qq_wal_record::encodings_have_lengths;
@@ -50,18 +49,14 @@ pub fn appends_and_syncs_stay_in_their_file<D: NodeDisk>()
 ///   lie where they lay, and the others in the file to which the log is written.
 pub fn an_append_takes_what_fits<D: NodeDisk>()
     ensures batch { (count : ℕ) (old new : Wal D) → Appends count old new →
-        let waiting = old.waiting.items in let file = old.header.file in
-        (count ≤ length waiting) × (count ≤ 8192)
-        × (length (encodings file (take count waiting)) ≤ 4194304) × ((count ≡ length waiting)
-        ⊎ ((count ≡ 8192) ⊎ (4194304 < length (encodings file (take (count + 1) waiting))))) }
+        IsWhatFits old.header.file count old.waiting.items }
     ensures size { (count : ℕ) (old new : Wal D) → Appends count old new →
         new.size ≡ old.size + length (encodings old.header.file (take count old.waiting.items)) }
-    ensures lies { (count : ℕ) (old new : Wal D) (ops : List Op) (id : QueueId) (q : QueueRanges)
+    ensures lies { (count : ℕ) (old new : Wal D) (ops : List Op) (id : QueueId) (file : ℕ)
         (files : List ℕ) → Appends count old new → op_records ops ≡ take count old.waiting.items →
-        ranges_in old.ranges id.0 ≡ Some q → LieAs files q →
-        AllKeepWithin q.file files (of_queue id.0 ops) → (now : QueueRanges)
-        × (ranges_in new.ranges id.0 ≡ Some now) × (now.file ≡ q.file)
-        × LieAs (files_after q.file files (of_queue id.0 ops)) now }
+        LieIn (ranges_in old.ranges) id file files →
+        AllKeepWithin file files (of_queue id.0 ops) →
+        LieIn (ranges_in new.ranges) id file (files_after file files (of_queue id.0 ops)) }
 {}
 
 /// What a new file leaves of the log.

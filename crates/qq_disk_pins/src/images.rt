@@ -9,6 +9,7 @@ ghost use Rattle.qq_disk.specs.Crash.{Remains, IsImage, LeavesOnly};
 ghost use Rattle.qq_disk.specs.Image.{image_of, is_file, tail_of, IsNewestLog};
 ghost use Rattle.qq_disk.specs.Records.{Extends};
 ghost use Rattle.qq_disk_pins.specs.Images.{with, is_removed, BeginsWithKept};
+ghost use Rattle.qq_disk_pins.specs.Given.{LeavesAtMost};
 
 /// What no sync has kept may be lost.
 ///
@@ -102,8 +103,6 @@ pub fn the_newest_log_is_one()
 /// than so many others.
 pub fn a_crash_since_leaves_the_old_bytes()
     ensures { (file : FileName) (kept : List ℕ) (most : ℕ) (old new : List Disk) →
-        LeavesOnly (λ (i : Remains). Extends kept most (i file)) old new →
-        (more : List Disk) × (new ≡ more ++ old) × AllByRecursion (λ (d : Disk).
-        (i : Remains) → IsImage d i → (tail : List ℕ) × (i file ≡ Some (kept ++ tail))
-        × (length tail ≤ most)) more }
+        LeavesOnly (λ (i : Remains). Extends kept most (i file)) old new → (more : List Disk)
+        × (new ≡ more ++ old) × AllByRecursion (LeavesAtMost file kept most) more }
 {}

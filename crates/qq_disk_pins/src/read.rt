@@ -1,18 +1,18 @@
 //! Laws of what recovery reads: the functions do nothing, and their contracts are the laws.
-ghost use Rattle.std.specs.Prelude.{◌≡◌, ◌≤◌, ℕ, IsTrue, List, Ok, Err, Some, length, take, unwrap_or};
+ghost use Rattle.std.specs.Prelude.{◌≡◌, ℕ, IsTrue, List, Ok, Err, Some};
 ghost use Rattle.qq_base.specs.declared.ids.QueueId.{QueueId};
 ghost use Rattle.qq_disk.specs.declared.name.FileName.{FileName};
 ghost use Rattle.qq_disk.specs.Crash.{IsImage, Remains};
 ghost use Rattle.qq_disk.specs.Disk.{Disk, now};
 ghost use Rattle.qq_log.specs.declared.op.Op.{Op};
-ghost use Rattle.qq_log.specs.Stable.{new_state, stable};
-ghost use Rattle.qq_wal_chain.specs.Lanes.{Lanes, of_queue};
+ghost use Rattle.qq_wal_chain.specs.Lanes.{Lanes};
 ghost use Rattle.qq_wal_chain.specs.Laws.{IsHonestImage, IsRecoverable, KeepsPromise, lanes_read as lanes_left};
 ghost use Rattle.qq_wal.specs.Running.{top};
 ghost use Rattle.qq_recover.specs.declared.fault.RecoverFault.TheVariants.{Damaged, Version};
 ghost use Rattle.qq_recover.specs.Reading.{lanes_read, shown};
 ghost use Rattle.qq_recover.specs.ReadOnly.{OnlyReads};
 ghost use Rattle.qq_recover.specs.Recovery.{IsReadable};
+ghost use Rattle.qq_disk_pins.specs.Given.{HaveFirstOps};
 
 use qq_disk::NodeDisk;
 use qq_wal_chain::queues_get_their_first_ops;
@@ -44,9 +44,7 @@ pub fn a_disk_that_was_only_read_is_as_before<D: NodeDisk>()
 pub fn a_readable_disk_gives_what_was_promised()
     ensures lanes { (queues : List QueueId) (noticed given : List Op) (d : Disk) →
         IsReadable queues noticed given d → (lanes : Lanes)
-        × (lanes_read queues (shown d) ≡ Ok lanes) × ((id : ℕ) → (count : ℕ)
-        × (length (of_queue id noticed) ≤ count) × (count ≤ length (of_queue id given))
-        × (stable (take count (of_queue id given)) ≡ Some (unwrap_or (lanes id) new_state))) }
+        × (lanes_read queues (shown d) ≡ Ok lanes) × HaveFirstOps noticed given lanes }
     ensures refused { (queues : List QueueId) (noticed given : List Op) (d : Disk)
         (file : FileName) (place : ℕ) → IsReadable queues noticed given d →
         (lanes_read queues (shown d) ≡ Err (Damaged file place) → ⊥)
@@ -60,10 +58,8 @@ pub fn a_readable_disk_gives_what_was_promised()
 pub fn each_image_gives_what_was_promised()
     ensures { (queues : List QueueId) (bound : ℕ) (noticed given : List Op) (d : Disk)
         (i : Remains) → IsRecoverable queues bound noticed given d → IsImage d i →
-        IsHonestImage queues d i →
-        (lanes : Lanes) × (lanes_left queues bound i ≡ Some lanes) × ((id : ℕ) → (count : ℕ)
-        × (length (of_queue id noticed) ≤ count) × (count ≤ length (of_queue id given))
-        × (stable (take count (of_queue id given)) ≡ Some (unwrap_or (lanes id) new_state))) }
+        IsHonestImage queues d i → (lanes : Lanes)
+        × (lanes_left queues bound i ≡ Some lanes) × HaveFirstOps noticed given lanes }
 {
     queues_get_their_first_ops();
 }

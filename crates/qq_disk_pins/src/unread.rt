@@ -23,5 +23,6 @@ pub fn recovery_removes_the_logs_that_it_does_not_read()
         All (λ number. number ≢ n) (numbers_read queues d) → IsUnread queues d (log_of n) }
     ensures torn { (queues : List QueueId) (d : Disk) (n : ℕ) (bytes : List ℕ) →
         contents d (log_of n) ≡ Some bytes → (header_at bytes ≡ Err Short)
-        ⊎ ((header_at bytes ≡ Err Magic) ⊎ (header_at bytes ≡ Err Mark)) → IsUnread queues d (log_of n) }
+        ⊎ ((header_at bytes ≡ Err Magic) ⊎ (header_at bytes ≡ Err Mark)) →
+        IsUnread queues d (log_of n) }
 {}

@@ -1,20 +1,16 @@
 //! Laws of what is dumped: the functions do nothing, and their contracts are the laws.
-ghost use Rattle.std.specs.Prelude.{◌≡◌, ◌≢◌, ◌<◌, ◌++◌, ◌∷◌, ◌^◌, [], ℕ, Contains, Err, IsTrue, List, Some, codes, length, map};
+ghost use Rattle.std.specs.Prelude.{◌≡◌, ◌≢◌, ◌<◌, ◌++◌, ◌^◌, ℕ, Contains, IsTrue, List, Some, codes, map};
 ghost use Rattle.std.specs.Io.KnownBytes.{Appends};
 ghost use Rattle.std.specs.List.Sorted.{IsStrictlyIncreasing};
 ghost use Rattle.qq_base.specs.Causes.{Rose};
-ghost use Rattle.qq_base.specs.Fields.{AreBytes};
-ghost use Rattle.qq_disk.specs.Disk.{Disk, IsListing, contents, now};
+ghost use Rattle.qq_disk.specs.Disk.{Disk, contents, now};
 ghost use Rattle.qq_disk.specs.Image.{log_of};
-ghost use Rattle.qq_disk.specs.declared.name.FileKind.TheVariants.{Segment};
-ghost use Rattle.qq_wal_record.specs.Reading.{header_at};
-ghost use Rattle.qq_wal_record.specs.declared.header.NoHeader.TheVariants.{Version};
 ghost use Rattle.qq_dump.specs.declared.fault.DumpFault.{DumpFault};
 ghost use Rattle.qq_dump.specs.declared.fault.DumpFault.TheVariants.{Disk as DiskFailed, Sink};
 ghost use Rattle.qq_dump.specs.Fault.{IsCaused};
 ghost use Rattle.qq_dump.specs.Files.{AreShown, LogFile, dump_text, log_files};
-ghost use Rattle.qq_dump.specs.Worked.{worked_log};
 ghost use Rattle.qq_dump.specs.Written.{WritesFirst};
+ghost use Rattle.qq_dump.specs.Worked.{IsWorkedDisk};
 
 use qq_disk::NodeDisk;
 use qq_wal_chain::the_log_has_a_format;
@@ -60,13 +56,7 @@ pub fn a_dump_tells_what_it_wrote<D: NodeDisk>()
 /// version.
 pub fn a_worked_disk_is_dumped()
     ensures { (d : Disk) (tail torn other : List ℕ) (version : ℕ) →
-        IsListing d (log_of 1 ∷ log_of 2 ∷ log_of 3
-        ∷ record { kind = Segment; number = 6 } ∷ []) →
-        contents d (log_of 1) ≡ Some (worked_log ++ tail) → length tail < 17 →
-        AreBytes (worked_log ++ tail) →
-        contents d (log_of 2) ≡ Some torn → length torn < 38 →
-        contents d (log_of 3) ≡ Some other → header_at other ≡ Err (Version version) →
-        dump_text (log_files d)
+        IsWorkedDisk d tail torn other version → dump_text (log_files d)
         ≡ codes "1 38 change 1 1 21\n1 84 snapshot 2 7 32\n1 141 segment 30 12 24\n"
         ++ codes "1 190 carry 1 1 53\nend 1 268\nend 2 0\nend 3 0\n" }
 {

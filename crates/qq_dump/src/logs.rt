@@ -57,7 +57,8 @@ fn dump_log<D: NodeDisk, O: Sink>(
         (record { number = number; bytes = bytes } ∷ [])) }
     ensures same { IsTrue (D.facts.tells disk.old) → D.facts.past disk.new ≡ D.facts.past disk.old }
     ensures told { D.facts.tells disk.new ≡ D.facts.tells disk.old }
-    ensures cause { IfErr result (IsCaused (Rose (D.facts.faults disk.old) (D.facts.faults disk.new))
+    ensures cause { IfErr result (IsCaused
+        (Rose (D.facts.faults disk.old) (D.facts.faults disk.new))
         (Rose (O.faults output.old) (O.faults output.new))) }
     ensures disk { D.facts.faults disk.old ≤ D.facts.faults disk.new }
     ensures sink { O.faults output.old ≤ O.faults output.new }
@@ -128,7 +129,8 @@ fn dump_logs<D: NodeDisk, O: Sink>(
         × WritesFirst fault (O.written output.old) (O.written output.new) files) }
     ensures same { IsTrue (D.facts.tells disk.old) → D.facts.past disk.new ≡ D.facts.past disk.old }
     ensures told { D.facts.tells disk.new ≡ D.facts.tells disk.old }
-    ensures cause { IfErr result (IsCaused (Rose (D.facts.faults disk.old) (D.facts.faults disk.new))
+    ensures cause { IfErr result (IsCaused
+        (Rose (D.facts.faults disk.old) (D.facts.faults disk.new))
         (Rose (O.faults output.old) (O.faults output.new))) }
     ensures disk { D.facts.faults disk.old ≤ D.facts.faults disk.new }
     ensures sink { O.faults output.old ≤ O.faults output.new }
@@ -165,7 +167,8 @@ pub fn dump<D: NodeDisk, O: Sink>(
         × WritesFirst fault (O.written output.old) (O.written output.new) files) }
     ensures same { IsTrue (D.facts.tells disk.old) → D.facts.past disk.new ≡ D.facts.past disk.old }
     ensures told { D.facts.tells disk.new ≡ D.facts.tells disk.old }
-    ensures cause { IfErr result (IsCaused (Rose (D.facts.faults disk.old) (D.facts.faults disk.new))
+    ensures cause { IfErr result (IsCaused
+        (Rose (D.facts.faults disk.old) (D.facts.faults disk.new))
         (Rose (O.faults output.old) (O.faults output.new))) }
     ensures disk { D.facts.faults disk.old ≤ D.facts.faults disk.new }
     ensures sink { O.faults output.old ≤ O.faults output.new }

@@ -8,7 +8,12 @@ use Rattle.qq_raft_protocol.specs.Facts.{In}
 use Rattle.qq_raft.specs.Step.{row_of}
 use Rattle.qq_raft.specs.declared.row.AppliedRow.{AppliedRow}
 use Rattle.qq_raft.specs.declared.server.Server.{Server}
-use Rattle.qq_group.specs.Group.{server_at}
+use Rattle.qq_log.specs.Log.{LogState}
+use Rattle.qq_raft_model.specs.Group.{Group as GroupState}
+use Rattle.qq_group.specs.Follows.{Follows}
+use Rattle.qq_group.specs.Group.{IsReached, Represents, server_at}
+use Rattle.qq_group.specs.Steps.{HasShownEvent, ReachesAtMost, made_by}
+use Rattle.qq_group.specs.declared.event.Event.{Event}
 use Rattle.qq_group.specs.declared.group.Group.{Group}
 
 abbrev pub index_behind : ℕ → Index
@@ -56,3 +61,12 @@ AreOfAudit step start audit rows =
 abbrev pub IsMachine : {P Q L : Type 0} → (P → Q → Type 0) → P → Option (Q × L) → Type 0
 IsMachine stands start None = ⊤
 IsMachine stands start (Some s) = stands start s.0
+
+-- It is said where a group that stood for a reached state has taken an event, has shown these rows, and all its members but
+-- the one that the event reaches are as they were.
+abbrev pub WhereShown :
+    {P Q L : Type 0} → (P → Q → Type 0) → (P → Index → Entry → Applied P) → (L → LogState) → GroupState → Event
+    → Group Q L → Group Q L → List AppliedRow → Type 0 → Type 0
+WhereShown stands step log g event old new rows Said =
+    IsReached g → Represents log g old → Follows log (made_by event old) old new
+    → HasShownEvent stands step log event old new rows → ReachesAtMost event old new → Said

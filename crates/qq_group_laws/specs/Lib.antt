@@ -1,2 +1,4 @@
 pub mod Addressed
 pub mod Audited
+pub mod Passed
+pub mod Reached

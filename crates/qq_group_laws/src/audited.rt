@@ -4,14 +4,14 @@ ghost use Rattle.std.specs.List.{AllByRecursion};
 ghost use Rattle.qq_base.specs.declared.memory.Memory.{Memory};
 ghost use Rattle.qq_raft.specs.declared.row.AppliedRow.{AppliedRow};
 ghost use Rattle.qq_raft_model.specs.Group.{Group as GroupState};
-ghost use Rattle.qq_group.specs.Follows.{Follows, OthersStay, KeepsQueue, Makes};
-ghost use Rattle.qq_group.specs.Group.{IsReached, Represents, server_at};
+ghost use Rattle.qq_group.specs.Follows.{OthersStay, KeepsQueue, Makes};
+ghost use Rattle.qq_group.specs.Group.{Represents, server_at};
 ghost use Rattle.qq_group.specs.Opening.{AreDown, HaveStarted, Start};
 ghost use Rattle.qq_group.specs.Restarts.{HasStarted};
-ghost use Rattle.qq_group.specs.Steps.{HasShownEvent, IsEventCaused, made_by, ReachesAtMost, refused_by};
+ghost use Rattle.qq_group.specs.Steps.{IsEventCaused, ReachesAtMost, refused_by};
 ghost use Rattle.qq_group.specs.declared.event.Event.{Event};
 ghost use Rattle.qq_group.specs.declared.group.Group.{Group};
-ghost use Rattle.qq_group_laws.specs.Audited.{AreAudited, AreOfAudit, IsMachine};
+ghost use Rattle.qq_group_laws.specs.Audited.{AreAudited, AreOfAudit, IsMachine, WhereShown};
 
 use qq_group::{events_reach_groups, what_is_committed_stays_in_the_audit};
 use qq_raft_msg::{LogView, Queue};
@@ -20,15 +20,11 @@ use qq_raft_msg::{LogView, Queue};
 /// leaves them so, and the rows that it shows are of the audit.
 pub fn each_row_is_of_the_audit<Q: Queue, L: LogView>()
     ensures servers { (start : Q.Plain) (g : GroupState) (event : Event) (old new : Group Q L)
-        (rows : List AppliedRow) → IsReached g → Represents L.log g old →
-        Follows L.log (made_by event old) old new →
-        HasShownEvent Q.stands Q.step L.log event old new rows → ReachesAtMost event old new →
-        AreAudited Q.stands Q.step start old → AreAudited Q.stands Q.step start new }
+        (rows : List AppliedRow) → WhereShown Q.stands Q.step L.log g event old new rows
+        (AreAudited Q.stands Q.step start old → AreAudited Q.stands Q.step start new) }
     ensures rows { (start : Q.Plain) (g : GroupState) (event : Event) (old new : Group Q L)
-        (rows : List AppliedRow) → IsReached g → Represents L.log g old →
-        Follows L.log (made_by event old) old new →
-        HasShownEvent Q.stands Q.step L.log event old new rows → ReachesAtMost event old new →
-        AreAudited Q.stands Q.step start old → AreOfAudit Q.step start new.audit.items rows }
+        (rows : List AppliedRow) → WhereShown Q.stands Q.step L.log g event old new rows
+        (AreAudited Q.stands Q.step start old → AreOfAudit Q.step start new.audit.items rows) }
 {
     events_reach_groups();
     what_is_committed_stays_in_the_audit::<Q, L>();

@@ -7,6 +7,7 @@ ghost use Rattle.qq_entry.specs.declared.command.Entry.{Entry};
 ghost use Rattle.qq_raft_model.specs.State.{Server as Raft};
 ghost use Rattle.qq_raft.specs.Stands.{IsCaused};
 ghost use Rattle.qq_raft.specs.Step.{PassesEnd, ServerState, apply_all, next_index};
+ghost use Rattle.qq_group_laws.specs.Passed.{IsAtItsEnd};
 
 use qq_raft_msg::Queue;
 
@@ -32,10 +33,9 @@ pub fn a_number_of_the_queue_passes_its_end<Q: Queue>()
 ///   entries that are committed then and weren't applied would raise a number of the queue past its end.
 /// - `want`: where the three are below, and no entry ever would, there is no memory.
 pub fn applying_gives_up_at_an_end<Q: Queue>()
-    ensures spent { (acts : Raft → Raft) (s : ServerState Q.Plain) (number : ℕ) →
-        IsCaused Q.step Q.passes_end acts s (Spent number) → (number ≡ 2 ^ 63)
-        × (((s.raft.op ≡ 2 ^ 63) ⊎ (s.raft.term.0 ≡ 2 ^ 63) ⊎ (length s.raft.log ≡ 2 ^ 63))
-        ⊎ PassesEnd Q.step Q.passes_end
+    ensures spent { (acts : Raft → Raft) (s : ServerState Q.Plain) (n : ℕ) →
+        IsCaused Q.step Q.passes_end acts s (Spent n) → (n ≡ 2 ^ 63)
+        × (IsAtItsEnd s.raft ⊎ PassesEnd Q.step Q.passes_end
         (drop s.applied (take (acts s.raft).commit (acts s.raft).log))
         (record s { raft = acts s.raft })) }
     ensures want { (acts : Raft → Raft) (s : ServerState Q.Plain) (e : Memory) →

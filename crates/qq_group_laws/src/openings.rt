@@ -1,17 +1,16 @@
 //! Laws of groups that are opened: the functions do nothing, and their contracts are the laws.
-ghost use Rattle.std.specs.Prelude.{◌≡◌, ◌<◌, ◌≤◌, [], ℕ, List, false, true};
+ghost use Rattle.std.specs.Prelude.{◌≡◌, ◌<◌, ◌≤◌, ℕ, List, false, true};
 ghost use Rattle.std.specs.List.{AllByRecursion};
 ghost use Rattle.qq_base.specs.declared.ids.NodeId.{NodeId};
 ghost use Rattle.qq_base.specs.declared.ids.QueueId.{QueueId};
 ghost use Rattle.qq_base.specs.declared.memory.Memory.TheVariants.{Want};
 ghost use Rattle.qq_entry.specs.declared.command.Entry.{Entry};
 ghost use Rattle.qq_raft_protocol.specs.Facts.{In};
-ghost use Rattle.qq_raft_model.specs.Group.{Group as GroupState};
-ghost use Rattle.qq_group.specs.Group.{Represents};
 ghost use Rattle.qq_group.specs.Opening.{AreApart, IsOpeningCaused, MayBeFoundBy, OpensOver, Start, is_named};
 ghost use Rattle.qq_group.specs.declared.group.Group.{Group};
 ghost use Rattle.qq_group.specs.declared.opening.GroupFault.{GroupFault};
 ghost use Rattle.qq_group.specs.declared.opening.GroupFault.TheVariants.{Memory as OfMemory, Short};
+ghost use Rattle.qq_group_laws.specs.Reached.{StandsForNew};
 
 use qq_group::logs_may_be_found;
 use qq_raft_msg::{LogView, Queue};
@@ -23,8 +22,7 @@ pub fn an_opened_group_stands_for_a_state<Q: Queue, L: LogView>()
         (starts : List (Start Q L)) (group : Group Q L) → AreApart starts →
         AllByRecursion (λ (s : Start Q L). MayBeFoundBy L.log s.1) starts →
         OpensOver L.log queue nodes audit starts group →
-        (g : GroupState) × Represents L.log g group × (g.queue ≡ queue) × (g.nodes ≡ nodes)
-        × (g.bag ≡ []) × (g.audit ≡ audit) }
+        StandsForNew L.log queue nodes audit group }
 {
     logs_may_be_found::<Q, L>();
 }

@@ -1,11 +1,9 @@
 //! Laws of what a restart finds or loses: the functions do nothing, and their contracts are the laws.
-ghost use Rattle.std.specs.Prelude.{◌≡◌, ◌≤◌, ℕ, Some, length, slice_get, take, true};
+ghost use Rattle.std.specs.Prelude.{◌≡◌, ℕ, Some, slice_get, true};
 ghost use Rattle.qq_base.specs.declared.memory.Memory.{Memory};
 ghost use Rattle.qq_base.specs.declared.memory.Memory.TheVariants.{Want};
 ghost use Rattle.qq_log.specs.Log.{LogState};
-ghost use Rattle.qq_log.specs.Stable.{stable};
 ghost use Rattle.qq_raft_protocol.specs.World.{Lane};
-ghost use Rattle.qq_raft_model.specs.Handing.{plain_state};
 ghost use Rattle.qq_raft.specs.declared.server.Server.{Server};
 ghost use Rattle.qq_raft_model.specs.Group.{Group as GroupState, happens};
 ghost use Rattle.qq_raft_model.specs.Group.Event.{Restart};
@@ -15,6 +13,7 @@ ghost use Rattle.qq_group.specs.Restarts.{Finds, IsRestartCaused, Restarts};
 ghost use Rattle.qq_group.specs.declared.group.Group.{Group};
 ghost use Rattle.qq_group.specs.declared.restart.RestartFault.TheVariants.{Lost, Memory as OfMemory};
 ghost use Rattle.qq_group.specs.declared.seat.Seat.{Seat};
+ghost use Rattle.qq_group_laws.specs.Passed.{ComesOf, IsLaneOf};
 
 use qq_raft_msg::{LogView, Queue};
 
@@ -35,8 +34,7 @@ pub fn a_lost_log_is_told_as_it_was_found<Q: Queue, L: LogView>()
         (seat : Seat Q L) × (slice_get old.seats.items k ≡ Some seat) × (seat.known ≡ true) }
     ensures lost { (g : GroupState) (k noticed found : ℕ) (l : LogState) (old : Group Q L) →
         Represents L.log g old → IsRestartCaused L.log k l old (Lost noticed found) →
-        (g.seat k).noticed ≤ l.op → l.op ≤ length (g.seat k).ops → stable (take l.op (g.seat k).ops)
-        ≡ Some (plain_state l.op l.term l.vote l.entries) → ⊥ }
+        ComesOf (g.seat k) l → ⊥ }
     ensures memory { (k : ℕ) (l : LogState) (old : Group Q L) (e : Memory) →
         IsRestartCaused L.log k l old (OfMemory e) → e ≡ Want }
 {}
@@ -49,15 +47,11 @@ pub fn a_lost_log_is_told_as_it_was_found<Q: Queue, L: LogView>()
 pub fn a_log_that_is_found_restarts<Q: Queue, L: LogView>()
     ensures found { (g : GroupState) (k : ℕ) (l : LogState) (old : Group Q L) (seat : Seat Q L) →
         Represents L.log g old → Finds L.log k l old →
-        slice_get old.seats.items k ≡ Some seat → seat.known ≡ true →
-        ((g.seat k).noticed ≤ l.op) × (l.op ≤ length (g.seat k).ops)
-        × (stable (take l.op (g.seat k).ops)
-        ≡ Some (plain_state l.op l.term l.vote l.entries)) }
+        slice_get old.seats.items k ≡ Some seat → seat.known ≡ true → ComesOf (g.seat k) l }
     ensures left { (g : GroupState) (k : ℕ) (l : LogState) (old : Group Q L) (seat : Seat Q L) →
         Represents L.log g old → Finds L.log k l old →
         slice_get old.seats.items k ≡ Some seat → seat.known ≡ true →
-        (lane : Lane) × IsLeft g k lane × (lane.op ≡ l.op) × (lane.term ≡ l.term.0)
-        × (lane.log ≡ l.entries) }
+        (lane : Lane) × IsLeft g k lane × IsLaneOf lane l }
     ensures restarts { (g : GroupState) (k : ℕ) (l : LogState) (old new : Group Q L)
         (seat : Seat Q L) → Represents L.log g old → Restarts L.log k l old new →
         slice_get old.seats.items k ≡ Some seat → seat.known ≡ true →

@@ -1,5 +1,5 @@
 //! Laws of what commands make of the parts: the functions do nothing, and their contracts are the laws.
-ghost use Rattle.std.specs.Prelude.{◌≡◌, ◌⊎◌, ◌<◌, ◌++◌, ◌∷◌, [], ℕ, List, Some, true, not, Contains, filter, map};
+ghost use Rattle.std.specs.Prelude.{◌≡◌, ◌⊎◌, ◌<◌, ◌∷◌, [], ℕ, List, Some, true, not, Contains, filter, map};
 ghost use Rattle.std.specs.List.{AllByRecursion};
 ghost use Rattle.std.specs.Option.{option_map};
 ghost use Rattle.qq_base.specs.declared.ids.ConsumerId.{ConsumerId};
@@ -23,6 +23,7 @@ ghost use Rattle.qq_parts.specs.Changes.{Taken, arrive, back_letter, bury, dead_
 ghost use Rattle.qq_parts.specs.Consumers.{changed, keep_ones, needed_one, stays_one};
 ghost use Rattle.qq_parts.specs.Outs.{IsFree, delivery_to, hand_over, joined, purged, take_out, taken_row};
 ghost use Rattle.qq_parts.specs.Parts.{Parts, Served, Stands, StandsWith, IsWhole, consumer_at};
+ghost use Rattle.qq_queue_pins.specs.Standing.{IsSoundFor, GoesOnWith, after_effects};
 
 use qq_parts::{
     consumers_are_served, consumers_change_and_leave, deliveries_end, messages_come_and_go,
@@ -37,24 +38,19 @@ use qq_parts::{
 pub fn messages_leave_the_parts()
     ensures arrives { (m : Parts) (s : State) (index : Index) (message : Message) → Stands m s →
         IsWhole m → AllByRecursion (λ (row : Row). row.index.0 < index.0) s.rows →
-        Stands (arrive index message m) (append_message s index message)
-        × IsWhole (arrive index message m) }
+        IsSoundFor (arrive index message m) (append_message s index message) }
     ensures taken { (m : Parts) (s : State) (taken : Taken) → Stands m s → IsWhole m →
         take_first m ≡ Some taken → StandsWith taken.item taken.left s × IsWhole taken.left }
     ensures goes { (x : Item) (m : Parts) (s : State) (reason : GoneReason) → StandsWith x m s →
         IsWhole m → Stands m (move_row x.row (Gone reason) s) }
     ensures dies { (x : Item) (m : Parts) (s : State) (reason : Reason) (effects : List Effect) →
-        StandsWith x m s → IsWhole m → Stands (bury m.rest.args.strategy reason x m)
-        (die reason x.row (record { state = s; effects = effects })).state
-        × IsWhole (bury m.rest.args.strategy reason x m)
-        × ((die reason x.row (record { state = s; effects = effects })).effects
-        ≡ effects ++ dead_letter m.rest.args.strategy reason x) }
+        StandsWith x m s → IsWhole m →
+        GoesOnWith (bury m.rest.args.strategy reason x m)
+        (die reason x.row (after_effects s effects)) effects
+        (dead_letter m.rest.args.strategy reason x) }
     ensures returns { (x : Item) (m : Parts) (s : State) (effects : List Effect) →
-        StandsWith x m s → IsWhole m → Stands (give_back x m)
-        (return_row x.row (record { state = s; effects = effects })).state
-        × IsWhole (give_back x m)
-        × ((return_row x.row (record { state = s; effects = effects })).effects
-        ≡ effects ++ back_letter x m) }
+        StandsWith x m s → IsWhole m → GoesOnWith (give_back x m)
+        (return_row x.row (after_effects s effects)) effects (back_letter x m) }
 {
     messages_come_and_go();
 }
@@ -65,13 +61,10 @@ pub fn messages_leave_the_parts()
 /// - `found`, `ends`: the delivery of an id is found, and the queue stands for what is left and that message.
 /// - `joins`, `purges`: a consumer of a free id joins, and all that is ready is purged.
 pub fn deliveries_begin_and_end()
-    ensures begins { (x : Item) (consumer : Consumer) (m : Parts) (s : State)
-        (effects : List Effect) → StandsWith x m s → IsWhole m →
-        Contains (map consumer_at m.served) consumer → Stands (hand_over x consumer m)
-        (deliver x.row consumer (record { state = s; effects = effects })).state
-        × IsWhole (hand_over x consumer m)
-        × ((deliver x.row consumer (record { state = s; effects = effects })).effects
-        ≡ effects ++ Deliver consumer.id (delivery_to consumer x) ∷ []) }
+    ensures begins { (x : Item) (to : Consumer) (m : Parts) (s : State) (effects : List Effect) →
+        StandsWith x m s → IsWhole m → Contains (map consumer_at m.served) to →
+        GoesOnWith (hand_over x to m) (deliver x.row to (after_effects s effects)) effects
+        (Deliver to.id (delivery_to to x) ∷ []) }
     ensures found { (consumer : ConsumerId) (id : ℕ) (m : Parts) (s : State) → Stands m s →
         IsWhole m → delivered_row consumer id s.rows
         ≡ option_map taken_row (take_out consumer id m) }
@@ -79,10 +72,9 @@ pub fn deliveries_begin_and_end()
         Stands m s → IsWhole m → take_out consumer id m ≡ Some taken →
         StandsWith taken.item taken.left s × IsWhole taken.left }
     ensures joins { (m : Parts) (s : State) (id : ConsumerId) (mode : Mode) → Stands m s →
-        IsWhole m → IsFree id m → Stands (joined id mode m) (join id mode s)
-        × IsWhole (joined id mode m) }
+        IsWhole m → IsFree id m → IsSoundFor (joined id mode m) (join id mode s) }
     ensures purges { (m : Parts) (s : State) → Stands m s → IsWhole m →
-        Stands (purged m) (record s { rows = map purge_row s.rows }) × IsWhole (purged m) }
+        IsSoundFor (purged m) (record s { rows = map purge_row s.rows }) }
 {
     consumers_are_served();
     deliveries_end();
@@ -96,18 +88,14 @@ pub fn deliveries_begin_and_end()
 pub fn consumers_change_in_the_parts()
     ensures changes { (m : Parts) (s : State) (old : Served) (new : Consumer) → Stands m s →
         IsWhole m → Contains m.served old → new.id ≡ old.consumer.id →
-        new.next_id ≡ old.consumer.next_id → Stands (changed new m)
-        (record s { consumers = put_consumer new s.consumers }) × IsWhole (changed new m) }
+        new.next_id ≡ old.consumer.next_id → IsSoundFor (changed new m)
+        (record s { consumers = put_consumer new s.consumers }) }
     ensures finishes { (m : Parts) (s : State) → Stands m s → IsWhole m →
-        Stands (keep_ones needed_one m) (drop_finished s) × IsWhole (keep_ones needed_one m) }
-    ensures goes { (m : Parts) (s : State) (session : SessionId) → Stands m s → IsWhole m →
-        AllByRecursion
-        (λ (one : Served). (stays_one session one ≡ true) ⊎ (one.out ≡ [])) m.served →
-        Stands (keep_ones (stays_one session) m) (record s {
-          consumers = filter
-              (λ (one : Consumer). not (is_of_session session one)) s.consumers;
-        })
-        × IsWhole (keep_ones (stays_one session) m) }
+        IsSoundFor (keep_ones needed_one m) (drop_finished s) }
+    ensures goes { (m : Parts) (s : State) (id : SessionId) → Stands m s → IsWhole m →
+        AllByRecursion (λ (one : Served). (stays_one id one ≡ true) ⊎ (one.out ≡ [])) m.served →
+        IsSoundFor (keep_ones (stays_one id) m)
+        (record s { consumers = filter (λ one. not (is_of_session id one)) s.consumers }) }
 {
     consumers_change_and_leave();
 }

@@ -1,5 +1,5 @@
 -- What recovery reads of a disk.
-use Rattle.std.specs.Prelude.{ℕ, List}
+use Rattle.std.specs.Prelude.{◌≡◌, ℕ, List, Ok}
 use Rattle.qq_base.specs.declared.ids.QueueId.{QueueId}
 use Rattle.qq_disk.specs.Disk.{Disk}
 use Rattle.qq_wal_chain.specs.Chain.{Logs, newest, good_length}
@@ -28,3 +28,7 @@ files_read queues logs =
 -- and records of each, then record by record from the oldest on
 unfoldable pub lanes_read : List QueueId → Logs → Answer Lanes
 lanes_read queues logs = files_read queues logs >>= λ files. replay_files queues files no_lanes
+
+-- these are the files that are read, and the lanes that they give
+abbrev pub AreRead : List QueueId → Logs → List ChainFile → Lanes → Type 0
+AreRead queues logs files lanes = (files_read queues logs ≡ Ok files) × (lanes_read queues logs ≡ Ok lanes)

@@ -1,6 +1,7 @@
 -- What recovery gives.
-use Rattle.std.specs.Prelude.{◌≡◌, ◌+◌, ◌≤◌, ℕ, true, List, Option, Some, None, Result, Ok, Err}
+use Rattle.std.specs.Prelude.{◌≡◌, ◌+◌, ◌≤◌, ℕ, true, List, Option, Some, None, unwrap_or, Result, Ok, Err}
 use Rattle.qq_base.specs.Causes.{Rose}
+use Rattle.qq_base.specs.declared.ids.Index.{Index}
 use Rattle.qq_base.specs.declared.ids.QueueId.{QueueId}
 use Rattle.qq_base.specs.declared.memory.Memory.{Memory}
 use Rattle.qq_base.specs.declared.memory.Memory.TheVariants.{Want, Spent}
@@ -10,7 +11,7 @@ use Rattle.qq_disk.specs.declared.name.FileName.{FileName}
 use Rattle.qq_disk.specs.Disk.{Disk, IsListing, now}
 use Rattle.qq_log.specs.Carries.{is_listed}
 use Rattle.qq_log.specs.declared.lane.Lane.{Lane}
-use Rattle.qq_log.specs.Stable.{Stable}
+use Rattle.qq_log.specs.Stable.{Stable, last_index, new_state}
 use Rattle.qq_wal_chain.specs.Lanes.{Lanes}
 use Rattle.qq_wal.specs.declared.fault.WalFault.{WalFault}
 use Rattle.qq_wal.specs.declared.fault.WalFault.TheVariants as wal_fault
@@ -18,12 +19,15 @@ use Rattle.qq_wal.specs.declared.wal.Wal.{Wal}
 use Rattle.qq_wal.specs.Marks.{carries_of, carry_in}
 use Rattle.qq_wal.specs.Notices.{synced_in}
 use Rattle.qq_wal.specs.Numbers.{greatest_number}
-use Rattle.qq_wal.specs.Ranges.{AllRanges}
+use Rattle.qq_wal.specs.Ranges.{AllRanges, as_indices, in_file, ranges_in}
+use Rattle.qq_wal.specs.Entries.{IsRangeOf}
+use Rattle.qq_wal.specs.Spans.{Range}
 use Rattle.qq_wal.specs.Wal.{IsBegun, carries_ahead}
 use Rattle.qq_recover.specs.declared.fault.RecoverFault.{RecoverFault}
 use Rattle.qq_recover.specs.declared.fault.RecoverFault.TheVariants.{Disk as DiskFailed, Damaged, Version, Memory as OfMemory}
+use Rattle.qq_recover.specs.declared.file.ChainFile.{ChainFile}
 use Rattle.qq_recover.specs.declared.recovered.Recovered.{Recovered}
-use Rattle.qq_recover.specs.Entries.{ranges_read}
+use Rattle.qq_recover.specs.Entries.{entry_files, ranges_read}
 use Rattle.qq_recover.specs.Log.{IsNewest}
 use Rattle.qq_recover.specs.Reading.{shown}
 use Rattle.qq_recover.specs.State.{IsPlainLaneOf}
@@ -58,6 +62,10 @@ pub record IsBegunAbove {D : Type 0} (queues : List QueueId) (names : List FileN
   pub begun :
       IsBegun (wal_of r).queues (wal_of r).header (carries_of queues (lanes_left r)) names ranges log_bytes (wal_of r)
 
+-- the state of a queue whose lane wasn't taken yet, a new one where it has none
+abbrev pub state_left : {D : Type 0} → Recovered D → QueueId → Stable
+state_left r id = unwrap_or (lanes_left r id.0) new_state
+
 -- the number of a state's last op
 abbrev pub last_op : Option Stable → ℕ
 last_op None = 0
@@ -68,6 +76,16 @@ pub record KnowsLanes {D : Type 0} (queues : List QueueId) (r : Recovered D) : T
   pub ahead : (id : QueueId) → is_listed queues id ≡ true → carries_ahead (wal_of r) id.0 ≡ carry_in (lanes_left r) id
   pub synced : (id : QueueId) → is_listed queues id ≡ true
       → synced_in (wal_of r).marks id ≡ last_op (lanes_left r id.0)
+
+-- a change of this number goes on from the state, and keeps no more entries than it has
+abbrev pub MayFollow : Stable → ℕ → Index → Type 0
+MayFollow s n keep = (n ≡ s.op + 1) × (s.base.index.0 ≤ keep.0) × (keep.0 ≤ last_index s)
+
+-- the log knows where the entries of a queue lie in a file, as these files say
+abbrev pub KnowsRange : {D : Type 0} → Recovered D → List ChainFile → QueueId → ℕ → Type 0
+KnowsRange r files id n =
+    (range : Range) × (in_file (ranges_in (wal_of r).ranges) id n ≡ as_indices range)
+    × IsRangeOf (entry_files id.0 files) n range
 
 -- Whatever the disk tells: the log is of these queues, nothing waits in it, no call has failed, and of each queue it knows
 -- what its lane comes to.

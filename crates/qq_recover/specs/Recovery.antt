@@ -36,6 +36,14 @@ pub record BeginsOne (old new : List Disk) : Type 0 where
   pub above : (m : ℕ) → IsListed (now old) (log_of m) → m < number
   pub each : Adds (SyncsOthers (log_of number) (now old)) old new
 
+-- a number above that of each log file that is listed
+abbrev pub IsAbove : Disk → ℕ → Type 0
+IsAbove d number = (m : ℕ) → IsListed d (log_of m) → m < number
+
+-- a log file that isn't read
+abbrev pub IsOutside : List QueueId → Disk → FileName → Type 0
+IsOutside queues d file = (file.kind ≡ OfLog) × IsNoneOf (numbers_read queues d) file.number
+
 -- a log file that is listed, and that isn't one of those which are read
 pub record IsUnread (queues : List QueueId) (d : Disk) (file : FileName) : Type 0 where
   pub kind : file.kind ≡ OfLog

@@ -1,5 +1,5 @@
 //! Laws of what recovery reads: the functions do nothing, and their contracts are the laws.
-ghost use Rattle.std.specs.Prelude.{◌≡◌, ◌≤◌, ◌<◌, ◌+◌, ◌⊎◌, ◌^◌, ℕ, All, IsTrue, List, Option, Some, Ok, Err, length, unwrap_or, true, false};
+ghost use Rattle.std.specs.Prelude.{◌≡◌, ◌≤◌, ◌<◌, ◌+◌, ◌⊎◌, ◌^◌, ℕ, All, IsSomeAnd, IsTrue, List, Option, Some, Ok, Err, length, unwrap_or, true, false};
 ghost use Rattle.qq_base.specs.Causes.{Rose};
 ghost use Rattle.qq_base.specs.Fronts.{IsFront};
 ghost use Rattle.qq_base.specs.declared.ids.Index.{Index};
@@ -13,14 +13,13 @@ ghost use Rattle.qq_disk.specs.Crash.{IsImage, Remains, reopen};
 ghost use Rattle.qq_disk.specs.Disk.{Disk, IsListed, contents, now};
 ghost use Rattle.qq_disk.specs.Name.{same_name};
 ghost use Rattle.qq_disk.specs.Image.{log_of};
-ghost use Rattle.qq_disk.specs.declared.name.FileKind.TheVariants.{Log as OfLog};
 ghost use Rattle.qq_disk.specs.declared.name.FileName.{FileName};
 ghost use Rattle.qq_log.specs.Carries.{GoesOn, is_listed};
 ghost use Rattle.qq_log.specs.declared.op.Op.{Op};
 ghost use Rattle.qq_log.specs.declared.op.Op.TheVariants.{Change};
 ghost use Rattle.qq_wal_chain.specs.Chain.{Logs, reading};
 ghost use Rattle.qq_wal_chain.specs.Image.{files_of, is_removed};
-ghost use Rattle.qq_wal_chain.specs.Laws.{HoldsOps, IsHonestImage, KeepsPromise};
+ghost use Rattle.qq_wal_chain.specs.Laws.{IsHonestImage, KeepsPromise};
 ghost use Rattle.qq_wal_chain.specs.Promise.{found_world};
 ghost use Rattle.qq_wal_chain.specs.Wal.{wal};
 ghost use Rattle.qq_wal_chain.specs.Lanes.{Lanes, of_queue};
@@ -28,25 +27,23 @@ ghost use Rattle.qq_recover.specs.Answer.{Answer, Fails, answered};
 ghost use Rattle.qq_recover.specs.Fault.{IsCaused};
 ghost use Rattle.qq_recover.specs.declared.fault.RecoverFault.{RecoverFault};
 ghost use Rattle.qq_recover.specs.declared.fault.RecoverFault.TheVariants.{Disk as DiskFailed, Damaged, Version, Memory as OfMemory};
-ghost use Rattle.qq_wal.specs.Running.{IsNoneOf, numbers_read, top};
-ghost use Rattle.qq_log.specs.Stable.{Stable, last_index, new_state, stable};
+ghost use Rattle.qq_wal.specs.Running.{HasAll, top};
+ghost use Rattle.qq_log.specs.Stable.{Stable, new_state, stable};
 ghost use Rattle.qq_wal.specs.Notices.{synced_in};
 ghost use Rattle.qq_wal.specs.Wal.{IsSound, carries_ahead};
 ghost use Rattle.qq_wal.specs.declared.wal.Wal.{Wal};
-ghost use Rattle.qq_wal.specs.declared.ranges.QueueRanges.{QueueRanges};
-ghost use Rattle.qq_wal.specs.Entries.{IsRangeOf, LieAs};
-ghost use Rattle.qq_wal.specs.Ranges.{AllRanges, as_indices, in_file, ranges_in};
-ghost use Rattle.qq_wal.specs.Spans.{Range};
+ghost use Rattle.qq_wal.specs.Entries.{LieAs};
+ghost use Rattle.qq_wal.specs.Ranges.{AllRanges, in_file};
 ghost use Rattle.qq_recover.specs.declared.file.ChainFile.{ChainFile};
 ghost use Rattle.qq_recover.specs.declared.recovered.Recovered.{Recovered};
 ghost use Rattle.qq_recover.specs.Entries.{entry_files, ranges_read};
-ghost use Rattle.qq_recover.specs.Reading.{files_read, lanes_read, shown};
-ghost use Rattle.qq_recover.specs.Recovered.{IsBegunBehind, IsNoRefusal, IsRecoverCaused, IsSpentOn, KnowsLanes, lanes_left, wal_of};
+ghost use Rattle.qq_recover.specs.Reading.{AreRead, lanes_read, shown};
+ghost use Rattle.qq_recover.specs.Recovered.{IsBegunBehind, IsNoRefusal, IsRecoverCaused, IsSpentOn, KnowsLanes, KnowsRange, MayFollow, state_left, wal_of};
 ghost use Rattle.qq_entry.specs.Range.{IsWritable as IsEntry};
 ghost use Rattle.qq_log.specs.declared.lane.Lane.{Lane};
 ghost use Rattle.qq_log.specs.Writable.{IsVote};
 ghost use Rattle.qq_recover.specs.State.{IsWithinEnds};
-ghost use Rattle.qq_recover.specs.Recovery.{BeginsOne, IsReadable, MayRecover, RemovesUnread, SettlesLanes, StaysSyncing};
+ghost use Rattle.qq_recover.specs.Recovery.{BeginsOne, IsAbove, IsOutside, IsReadable, MayRecover, RemovesUnread, SettlesLanes, StaysSyncing};
 
 use qq_disk::NodeDisk;
 use qq_wal_chain::the_log_has_a_format;
@@ -97,7 +94,7 @@ pub fn a_promised_disk_is_read()
 pub fn recovery_settles_on_first_ops()
     ensures { (queues : List QueueId) (noticed given : List Op) (lanes : Lanes) (d : Disk) →
         SettlesLanes queues noticed given lanes d → (ops : List Op) × IsFront noticed ops
-        × IsFront ops given × HoldsOps queues top ops d × KeepsPromise queues top ops ops d
+        × IsFront ops given × HasAll queues ops ops d
         × ((id : ℕ) → stable (of_queue id ops) ≡ Some (unwrap_or (lanes id) new_state)) }
 {}
 
@@ -105,14 +102,12 @@ pub fn recovery_settles_on_first_ops()
 /// has, may be handed to the log, and the log counts as synced what its lane has.
 pub fn a_recovered_queue_goes_on<D: NodeDisk>()
     ensures next { (queues : List QueueId) (r : Recovered D) (id : QueueId) (n : ℕ) (term : Term)
-        (vote : Option NodeId) (keep : Index) (entries : List Entry) → KnowsLanes queues r →
-        is_listed queues id ≡ true → let lane = unwrap_or (lanes_left r id.0) new_state in
-        n ≡ lane.op + 1 → lane.base.index.0 ≤ keep.0 → keep.0 ≤ last_index lane →
-        GoesOn queues (carries_ahead (wal_of r)) (Change id n term vote keep entries) }
-    ensures synced { (queues : List QueueId) (r : Recovered D) (id : QueueId)
-        → KnowsLanes queues r →
-        is_listed queues id ≡ true →
-        synced_in (wal_of r).marks id ≡ (unwrap_or (lanes_left r id.0) new_state).op }
+        (vote : Option NodeId) (keep : Index) (more : List Entry) → KnowsLanes queues r →
+        is_listed queues id ≡ true → MayFollow (state_left r id) n keep →
+        GoesOn queues (carries_ahead (wal_of r)) (Change id n term vote keep more) }
+    ensures synced { (queues : List QueueId) (r : Recovered D) (id : QueueId) →
+        KnowsLanes queues r → is_listed queues id ≡ true →
+        synced_in (wal_of r).marks id ≡ (state_left r id).op }
 {}
 
 /// What recovery leaves of the files that are there, whatever it answers.
@@ -125,18 +120,18 @@ pub fn recovery_leaves_other_files_their_bytes()
     ensures synced { (old new : List Disk) (file : FileName) → StaysSyncing old new →
         contents (now new) file ≡ contents (now old) file }
     ensures begun { (old new : List Disk) → BeginsOne old new → (number : ℕ)
-        × ((m : ℕ) → IsListed (now old) (log_of m) → m < number)
+        × IsAbove (now old) number
         × ((file : FileName) → same_name (log_of number) file ≡ false →
         contents (now new) file ≡ contents (now old) file) }
     ensures removed { (queues : List QueueId) (old new : List Disk) →
-        RemovesUnread queues old new → (number : ℕ)
-        × ((m : ℕ) → IsListed (now old) (log_of m) → m < number)
+        RemovesUnread queues old new → (number : ℕ) × IsAbove (now old) number
         × ((file : FileName) → same_name (log_of number) file ≡ false →
         (contents (now new) file ≡ contents (now old) file)
-        ⊎ ((file.kind ≡ OfLog) × IsNoneOf (numbers_read queues (now old)) file.number)) }
-    ensures settled { (queues : List QueueId) (old new : List Disk) (r : RemovesUnread queues old new)
-        (i : Remains) (file : FileName) → IsImage (now r.begun) i →
-        IsListed (now r.begun) file → i file ≡ contents (now r.begun) file }
+        ⊎ IsOutside queues (now old) file) }
+    ensures settled { (queues : List QueueId) (old new : List Disk)
+        (r : RemovesUnread queues old new) (i : Remains) (file : FileName) →
+        IsImage (now r.begun) i → IsListed (now r.begun) file →
+        i file ≡ contents (now r.begun) file }
 {}
 
 /// What a lane is that recovery hands out, whatever the disk tells. `IsWithinEnds` is a clause of
@@ -166,21 +161,17 @@ pub fn a_lane_is_within_its_ends()
 /// - `told`: and so the log that was begun tells it.
 pub fn entries_lie_where_they_were_read<D: NodeDisk>()
     ensures each { (queues : List QueueId) (logs : Logs) (files : List ChainFile) (lanes : Lanes)
-        (ranges : AllRanges) (id : QueueId) (state : Stable) → is_listed queues id ≡ true →
-        files_read queues logs ≡ Ok files → lanes_read queues logs ≡ Ok lanes →
-        ranges_read queues logs ≡ Ok ranges → lanes id.0 ≡ Some state →
+        (id : QueueId) (state : Stable) → is_listed queues id ≡ true →
+        AreRead queues logs files lanes → lanes id.0 ≡ Some state →
         length state.log ≡ length (entry_files id.0 files) }
     ensures read { (queues : List QueueId) (logs : Logs) (files : List ChainFile) (lanes : Lanes)
         (ranges : AllRanges) (id : QueueId) → is_listed queues id ≡ true →
-        files_read queues logs ≡ Ok files → lanes_read queues logs ≡ Ok lanes →
-        ranges_read queues logs ≡ Ok ranges → (q : QueueRanges) × (ranges id.0 ≡ Some q)
-        × LieAs (entry_files id.0 files) q }
+        AreRead queues logs files lanes → ranges_read queues logs ≡ Ok ranges →
+        IsSomeAnd (ranges id.0) (LieAs (entry_files id.0 files)) }
     ensures told { (queues : List QueueId) (log_bytes : ℕ) (d : Disk) (r : Recovered D)
         (files : List ChainFile) (lanes : Lanes) (id : QueueId) (n : ℕ) →
-        IsBegunBehind queues log_bytes d r → files_read queues (shown d) ≡ Ok files →
-        lanes_read queues (shown d) ≡ Ok lanes → is_listed queues id ≡ true → (range : Range)
-        × (in_file (ranges_in (wal_of r).ranges) id n ≡ as_indices range)
-        × IsRangeOf (entry_files id.0 files) n range }
+        IsBegunBehind queues log_bytes d r → AreRead queues (shown d) files lanes →
+        is_listed queues id ≡ true → KnowsRange r files id n }
 {}
 
 /// Why recovery gave up.

@@ -1,15 +1,13 @@
 //! What a disk's log files come to.
-ghost use Rattle.std.specs.Prelude.{◌≡◌, List, map, Ok, IsTrue, IfOk};
-ghost use Rattle.std.specs.List.{AllByRecursion};
+ghost use Rattle.std.specs.Prelude.{◌≡◌, List, Ok, IsTrue, IfOk};
 ghost use Rattle.qq_base.specs.declared.ids.QueueId.{QueueId};
 ghost use Rattle.qq_base.specs.Causes.{HasCause};
 ghost use Rattle.qq_disk.specs.Disk.{now, IsListing};
 ghost use Rattle.qq_recover.specs.Answer.{Gives};
 ghost use Rattle.qq_wal.specs.Ranges.{ranges_in, ranges_of};
 ghost use Rattle.qq_wal.specs.Running.{numbers_read};
-ghost use Rattle.qq_recover.specs.declared.file.ChainFile.{ChainFile};
 ghost use Rattle.qq_recover.specs.Clearing.{numbers_of_ends};
-ghost use Rattle.qq_recover.specs.Ends.{IsReadAgain, end_of_file};
+ghost use Rattle.qq_recover.specs.Ends.{ForChain};
 ghost use Rattle.qq_recover.specs.Entries.{find_files, ranges_read};
 ghost use Rattle.qq_recover.specs.Fault.{IsCaused};
 ghost use Rattle.qq_recover.specs.Replay.{replay_files};
@@ -62,21 +60,18 @@ fn put_together<D: NodeDisk>(
     file: u64,
     chain: Vec<FileEnd>,
 ) -> Result<Log, RecoverFault>
-    ensures gives { IsTrue (D.facts.tells disk.old) → (listed : List QueueId)
-        (files : List ChainFile) →
-        Lists listed table → map end_of_file files ≡ chain.items →
-        AllByRecursion (IsReadAgain listed (shown (now (D.facts.past disk.old)))) files →
-        Gives (λ log. lanes_of log.table) result (replay_files listed files (lanes_of table)) }
+    ensures gives { IsTrue (D.facts.tells disk.old) →
+        ForChain chain.items (shown (now (D.facts.past disk.old))) (λ listed files.
+        Lists listed table → Gives (λ log. lanes_of log.table) result
+        (replay_files listed files (lanes_of table))) }
     ensures lists { (listed : List QueueId) → Lists listed table →
         IfOk result (λ log. Lists listed log.table) }
     ensures file { IfOk result (λ log. log.file ≡ file) }
     ensures good { IfOk result (λ log. log.good ≡ good_of chain.items) }
     ensures chain { IfOk result (λ log. log.chain ≡ chain) }
-    ensures ranges { IsTrue (D.facts.tells disk.old) → (listed : List QueueId)
-        (files : List ChainFile) → map end_of_file files ≡ chain.items →
-        AllByRecursion (IsReadAgain listed (shown (now (D.facts.past disk.old)))) files →
-        IfOk result (λ log.
-        ranges_in log.ranges ≡ find_files files (ranges_of queues.now)) }
+    ensures ranges { IsTrue (D.facts.tells disk.old) →
+        ForChain chain.items (shown (now (D.facts.past disk.old))) (λ listed files.
+        IfOk result (λ log. ranges_in log.ranges ≡ find_files files (ranges_of queues.now))) }
     ensures reads { OnlyReads D.facts disk.old disk.new }
     ensures cause { HasCause IsCaused (D.facts.faults disk.old) (D.facts.faults disk.new) result }
 {

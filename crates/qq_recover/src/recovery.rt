@@ -74,7 +74,8 @@ fn begin_behind<D: NodeDisk>(
         StillMayRecover queues.now (D.facts.past disk) (D.facts.past (disk_of result)) }
     ensures told { D.facts.tells (disk_of result) ≡ D.facts.tells disk }
     ensures later { D.facts.faults disk ≤ D.facts.faults (disk_of result) }
-    ensures cause { IfErr result (λ e. IsDiskCaused (D.facts.faults disk) (D.facts.faults e.1) e.0) }
+    ensures cause { IfErr result
+        (λ e. IsDiskCaused (D.facts.faults disk) (D.facts.faults e.1) e.0) }
 {
     let Start {
         header,

@@ -1,13 +1,13 @@
 //! The records of the chain, put together to lanes.
-ghost use Rattle.std.specs.Prelude.{◌≡◌, ◌<◌, List, length, map, slice_index_or, Ok, IsTrue, IfErr, OnOk};
-ghost use Rattle.std.specs.List.{AllByRecursion, fold};
+ghost use Rattle.std.specs.Prelude.{◌≡◌, ◌<◌, List, length, Ok, IsTrue, IfErr, OnOk};
+ghost use Rattle.std.specs.List.{fold};
 ghost use Rattle.qq_base.specs.Causes.{HasCause};
 ghost use Rattle.qq_base.specs.declared.ids.QueueId.{QueueId};
 ghost use Rattle.qq_disk.specs.Disk.{now};
 ghost use Rattle.qq_wal.specs.Ranges.{ranges_in};
 ghost use Rattle.qq_recover.specs.declared.file.ChainFile.{ChainFile};
 ghost use Rattle.qq_recover.specs.Answer.{Gives};
-ghost use Rattle.qq_recover.specs.Ends.{End, IsReadAgain, end_of_file};
+ghost use Rattle.qq_recover.specs.Ends.{ForChain, ForPlace, IsReadAgain, end_of_file};
 ghost use Rattle.qq_recover.specs.Entries.{find_files, find_record};
 ghost use Rattle.qq_recover.specs.Fault.{IsCaused, IsOfBytes};
 ghost use Rattle.qq_recover.specs.Reading.{shown};
@@ -104,17 +104,15 @@ fn replay_at<D: NodeDisk>(
     ranges: &mut FileRanges,
 ) -> Result<(), RecoverFault>
     requires { place < length chain.now }
-    ensures gives { IsTrue (D.facts.tells disk.old) → (queues : List QueueId) (file : ChainFile) →
-        Lists queues table.old → IsReadAgain queues (shown (now (D.facts.past disk.old))) file →
-        (other : End) → end_of_file file ≡ slice_index_or chain.now place other →
-        Gives (λ _. lanes_of table.new) result
-        (replay_records queues file.number file.records (lanes_of table.old)) }
+    ensures gives { IsTrue (D.facts.tells disk.old) →
+        ForPlace chain.now place (shown (now (D.facts.past disk.old))) (λ queues file.
+        Lists queues table.old → Gives (λ _. lanes_of table.new) result
+        (replay_records queues file.number file.records (lanes_of table.old))) }
     ensures lists { (queues : List QueueId) → Lists queues table.old → Lists queues table.new }
-    ensures ranges { IsTrue (D.facts.tells disk.old) → (queues : List QueueId) (file : ChainFile) →
-        IsReadAgain queues (shown (now (D.facts.past disk.old))) file →
-        (other : End) → end_of_file file ≡ slice_index_or chain.now place other →
+    ensures ranges { IsTrue (D.facts.tells disk.old) →
+        ForPlace chain.now place (shown (now (D.facts.past disk.old))) (λ queues file.
         OnOk result (ranges_in ranges.new
-        ≡ fold (find_record file.number) (ranges_in ranges.old) file.records) }
+        ≡ fold (find_record file.number) (ranges_in ranges.old) file.records)) }
     ensures reads { OnlyReads D.facts disk.old disk.new }
     ensures cause { HasCause IsCaused (D.facts.faults disk.old) (D.facts.faults disk.new) result }
 {
@@ -133,16 +131,14 @@ pub(crate) fn replay_chain<D: NodeDisk>(
     table: &mut Table,
     ranges: &mut FileRanges,
 ) -> Result<(), RecoverFault>
-    ensures gives { IsTrue (D.facts.tells disk.old) → (queues : List QueueId)
-        (files : List ChainFile) → Lists queues table.old → map end_of_file files ≡ chain.now →
-        AllByRecursion (IsReadAgain queues (shown (now (D.facts.past disk.old)))) files →
-        Gives (λ _. lanes_of table.new) result
-        (replay_files queues files (lanes_of table.old)) }
+    ensures gives { IsTrue (D.facts.tells disk.old) →
+        ForChain chain.now (shown (now (D.facts.past disk.old))) (λ queues files.
+        Lists queues table.old → Gives (λ _. lanes_of table.new) result
+        (replay_files queues files (lanes_of table.old))) }
     ensures lists { (queues : List QueueId) → Lists queues table.old → Lists queues table.new }
-    ensures ranges { IsTrue (D.facts.tells disk.old) → (queues : List QueueId)
-        (files : List ChainFile) → map end_of_file files ≡ chain.now →
-        AllByRecursion (IsReadAgain queues (shown (now (D.facts.past disk.old)))) files →
-        OnOk result (ranges_in ranges.new ≡ find_files files (ranges_in ranges.old)) }
+    ensures ranges { IsTrue (D.facts.tells disk.old) →
+        ForChain chain.now (shown (now (D.facts.past disk.old))) (λ queues files.
+        OnOk result (ranges_in ranges.new ≡ find_files files (ranges_in ranges.old))) }
     ensures reads { OnlyReads D.facts disk.old disk.new }
     ensures cause { HasCause IsCaused (D.facts.faults disk.old) (D.facts.faults disk.new) result }
 {

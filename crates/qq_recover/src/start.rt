@@ -156,7 +156,8 @@ pub(crate) fn prepare<D: NodeDisk>(
         StillMayRecover queues.now (D.facts.past disk.old) (D.facts.past disk.new) }
     ensures told { D.facts.tells disk.new ≡ D.facts.tells disk.old }
     ensures later { D.facts.faults disk.old ≤ D.facts.faults disk.new }
-    ensures cause { IfErr result (IsRecoverCaused (D.facts.faults disk.old) (D.facts.faults disk.new)) }
+    ensures cause { IfErr result
+        (IsRecoverCaused (D.facts.faults disk.old) (D.facts.faults disk.new)) }
     ensures spent { IsTrue (D.facts.tells disk.old) →
         IfErr result (IsSpentOn (now (D.facts.past disk.old))) }
 {

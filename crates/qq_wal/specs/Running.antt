@@ -1,21 +1,23 @@
 -- What a log that is written to keeps of its promise, from call to call.
-use Rattle.std.specs.Prelude.{◌≡◌, ◌≢◌, ◌-◌, ◌^◌, ◌<◌, ℕ, false, List, [], ◌++◌, Option, Some, None, unwrap_or, nat_eq}
+use Rattle.std.specs.Prelude.{◌≡◌, ◌≢◌, ◌-◌, ◌^◌, ◌<◌, ℕ, Bool, false, List, [], ◌++◌, length, Option, Some, None, unwrap_or, nat_eq}
 use Rattle.std.specs.List.{AllByRecursion}
 use Rattle.qq_base.specs.declared.ids.QueueId.{QueueId}
 use Rattle.qq_disk.specs.declared.name.FileName.{FileName}
-use Rattle.qq_disk.specs.Disk.{Disk, now, IsListing}
-use Rattle.qq_disk.specs.Moments.{Adds}
+use Rattle.qq_disk.specs.Disk.{Disk, content, now, IsListing}
+use Rattle.qq_disk.specs.Image.{log_of}
+use Rattle.qq_disk.specs.Moments.{Adds, IsRemoving}
 use Rattle.qq_disk.specs.Name.{same_name}
 use Rattle.qq_log.specs.declared.lane.Carry.{Carry}
 use Rattle.qq_log.specs.declared.op.Op.{Op}
 use Rattle.qq_log.specs.Stable.{new_state}
 use Rattle.qq_wal_record.specs.declared.header.Header.{Header}
+use Rattle.qq_wal_record.specs.declared.record.LogRecord.{LogRecord}
 use Rattle.qq_wal_chain.specs.Lanes.{Lanes}
 use Rattle.qq_wal_chain.specs.Records.{replay}
 use Rattle.qq_wal_chain.specs.Chain.{Found, Reading, reading}
 use Rattle.qq_wal_chain.specs.Image.{files_of, shown_logs}
-use Rattle.qq_wal_chain.specs.Promise.{IgnoresRemoved, IsRunningLog, StaysPromised, found_behind, found_world, kept_records, pending_records}
-use Rattle.qq_wal_chain.specs.Laws.{KeepsPromise, HoldsOps, AreWritable, IsSettledDisk, batch_bytes, op_records}
+use Rattle.qq_wal_chain.specs.Promise.{Continues, IgnoresRemoved, IsRunningLog, StaysPromised, found_behind, found_world, kept_records, pending_records}
+use Rattle.qq_wal_chain.specs.Laws.{KeepsPromise, HoldsOps, AreWritable, IsSettledDisk, batch_bytes, first_bytes, op_records}
 use Rattle.qq_wal_chain.specs.Wal.{wal, Ours}
 use Rattle.qq_wal.specs.Marks.{carries_of}
 
@@ -85,6 +87,42 @@ pub record IsBatchOf (queues : List QueueId) (h : Header) (batch : List Op) (byt
   pub fits : AreWritable h.file batch
   pub is : bytes ≡ batch_bytes queues h.file batch
 
+-- ---- of which logs a call says something
+
+-- each log that may go on in a new file with this header, whose first bytes these are
+abbrev pub ForNewFile : Header → List ℕ → Disk → ((queues : List QueueId) → Found (wal queues) → Type 0) → Type 0
+ForNewFile h bytes d Says =
+    (queues : List QueueId) (before : Found (wal queues)) (carries : List LogRecord)
+    → Continues (wal queues) top before h.file (Ours h) carries (files_of d)
+    → bytes ≡ first_bytes queues h.file (Ours h) carries → Says queues before
+
+-- each batch of which these are the bytes, for a log that is written to the file of this header
+abbrev pub ForBatch : Header → List ℕ → Disk → (List QueueId → List Op → Type 0) → Type 0
+ForBatch h bytes d Says =
+    (queues : List QueueId) (batch : List Op) → IsWrittenTo queues h d → IsBatchOf queues h batch bytes
+    → Says queues batch
+
+-- each log that is written to that file, and is synced where nothing was appended since
+abbrev pub ForLog : Header → Bool → Disk → (List QueueId → Type 0) → Type 0
+ForLog h dirty d Says =
+    (queues : List QueueId) → IsWrittenTo queues h d → (dirty ≡ false → IsSynced queues h d) → Says queues
+
+-- ---- what a call adds, and what it leaves
+
+-- the ops of a batch are given, and are on the disk in the end
+abbrev pub AddsBatch : List QueueId → List Op → List Disk → List Disk → Type 0
+AddsBatch queues batch old new = StaysGiving queues batch old new × HoldsAlso queues batch (now old) (now new)
+
+-- the promise is kept, and all that was given is on the disk
+pub record HasAll (queues : List QueueId) (noticed given : List Op) (d : Disk) : Type 0 where
+  pub keeps : KeepsPromise queues top noticed given d
+  pub holds : HoldsOps queues top given d
+
+-- the promise is kept at each moment since, and so now
+abbrev pub KeepsSince : List QueueId → List Op → List Op → List Disk → List Disk → Type 0
+KeepsSince queues noticed given old new =
+    Adds (KeepsPromise queues top noticed given) old new × KeepsPromise queues top noticed given (now new)
+
 -- these ops keep each lane sound behind what is on the disk
 abbrev pub MayAdd : List QueueId → List Op → Disk → Type 0
 MayAdd queues batch d =
@@ -93,6 +131,10 @@ MayAdd queues batch d =
 -- of all log files but this one the disk holds the same
 abbrev pub SameOthers : ℕ → Disk → Disk → Type 0
 SameOthers n d e = (m : ℕ) → n ≢ m → files_of e m ≡ files_of d m
+
+-- the length of a log's file
+abbrev pub length_in : Header → Disk → ℕ
+length_in h d = length (content d (log_of h.file))
 
 -- the numbers of the files that are read, the newest first
 abbrev pub numbers_in : (queues : List QueueId) → Option (Found (wal queues)) → List ℕ
@@ -113,6 +155,10 @@ IsNoneOf numbers m = AllByRecursion (λ (k : ℕ). nat_eq m k ≡ false) numbers
 -- a log file that isn't read: neither the one to which the log is written, nor one of the chain behind it
 abbrev pub IsOutside : List QueueId → Header → Disk → ℕ → Type 0
 IsOutside queues h d m = (m ≢ h.file) × IsNoneOf (numbers_behind queues h d) m
+
+-- the disk may be the one that removing such a file leaves
+abbrev pub RemovesOutside : List QueueId → Header → ℕ → Disk → Disk → Type 0
+RemovesOutside queues h m d e = IsOutside queues h d m × IsRemoving d (log_of m) e
 
 -- of every file but this one, of whatever kind, the disk holds the same
 abbrev pub KeepsOthers : FileName → Disk → Disk → Type 0

@@ -2,21 +2,17 @@
 ghost use Rattle.std.specs.Prelude.{◌≡◌, ◌+◌, List, length, true, false, IsTrue, IfErr, OnOk};
 ghost use Rattle.qq_base.specs.declared.ids.QueueId.{QueueId};
 ghost use Rattle.qq_base.specs.Causes.{HasCause};
-ghost use Rattle.qq_disk.specs.Disk.{now, content};
+ghost use Rattle.qq_disk.specs.Disk.{now};
 ghost use Rattle.qq_disk.specs.Image.{log_of};
 ghost use Rattle.qq_disk.specs.Fault.{IsCaused};
 ghost use Rattle.qq_disk.specs.Moments.{StaysAtWant};
-ghost use Rattle.qq_log.specs.declared.op.Op.{Op};
-ghost use Rattle.qq_wal_record.specs.declared.record.LogRecord.{LogRecord};
 ghost use Rattle.qq_wal_record.specs.Reading.{IsHeader};
-ghost use Rattle.qq_wal_chain.specs.Chain.{Found};
 ghost use Rattle.qq_wal_chain.specs.Image.{files_of, shown_logs};
-ghost use Rattle.qq_wal_chain.specs.Promise.{Continues};
 ghost use Rattle.qq_wal_chain.specs.Records.{replay};
-ghost use Rattle.qq_wal_chain.specs.Laws.{first_bytes, op_records};
-ghost use Rattle.qq_wal_chain.specs.Wal.{wal, Ours};
+ghost use Rattle.qq_wal_chain.specs.Laws.{op_records};
+ghost use Rattle.qq_wal_chain.specs.Wal.{wal};
 ghost use Rattle.qq_wal.specs.Fault.{IsHalfBegun, IsBeginCaused};
-ghost use Rattle.qq_wal.specs.Running.{top, IsWrittenTo, IsSynced, IsBatchOf, MayAdd, MayRecover, Stays, StaysBeside, StaysGiving, StillMayRecover, SameOthers, MayNotice, lanes_kept, lanes_shown, numbers_behind};
+ghost use Rattle.qq_wal.specs.Running.{ForBatch, ForLog, ForNewFile, IsWrittenTo, IsSynced, MayAdd, MayRecover, Stays, StaysBeside, StaysGiving, StillMayRecover, SameOthers, MayNotice, lanes_kept, lanes_shown, length_in, numbers_behind};
 
 use crate::fault::is_failure;
 use qq_disk::{DiskFault, FileKind, FileName, NodeDisk};
@@ -32,54 +28,32 @@ pub(crate) fn begin_file<D: NodeDisk>(
     header: Header,
     bytes: &[u8],
 ) -> Result<(), (DiskFault, bool)>
-    ensures stays { IsTrue (D.facts.tells disk.old) → (queues : List QueueId)
-        (before : Found (wal queues)) (carries : List LogRecord) →
-        Continues (wal queues) top before header.file (Ours header) carries
-        (files_of (now (D.facts.past disk.old))) →
-        bytes.now ≡ first_bytes queues header.file (Ours header) carries →
-        Stays queues (D.facts.past disk.old) (D.facts.past disk.new) }
-    ensures log { IsTrue (D.facts.tells disk.old) → (queues : List QueueId)
-        (before : Found (wal queues)) (carries : List LogRecord) →
-        Continues (wal queues) top before header.file (Ours header) carries
-        (files_of (now (D.facts.past disk.old))) →
-        bytes.now ≡ first_bytes queues header.file (Ours header) carries →
+    ensures stays { IsTrue (D.facts.tells disk.old) →
+        ForNewFile header bytes.now (now (D.facts.past disk.old)) (λ queues before.
+        Stays queues (D.facts.past disk.old) (D.facts.past disk.new)) }
+    ensures log { IsTrue (D.facts.tells disk.old) →
+        ForNewFile header bytes.now (now (D.facts.past disk.old)) (λ queues before.
         OnOk result (IsWrittenTo queues header (now (D.facts.past disk.new))
-        × IsSynced queues header (now (D.facts.past disk.new))) }
-    ensures shown { IsTrue (D.facts.tells disk.old) → (queues : List QueueId)
-        (before : Found (wal queues)) (carries : List LogRecord) →
-        Continues (wal queues) top before header.file (Ours header) carries
-        (files_of (now (D.facts.past disk.old))) →
-        bytes.now ≡ first_bytes queues header.file (Ours header) carries →
+        × IsSynced queues header (now (D.facts.past disk.new)))) }
+    ensures shown { IsTrue (D.facts.tells disk.old) →
+        ForNewFile header bytes.now (now (D.facts.past disk.old)) (λ queues before.
         OnOk result (lanes_shown queues (now (D.facts.past disk.new))
-        ≡ lanes_shown queues (now (D.facts.past disk.old))) }
-    ensures length { IsTrue (D.facts.tells disk.old) → (queues : List QueueId)
-        (before : Found (wal queues)) (carries : List LogRecord) →
-        Continues (wal queues) top before header.file (Ours header) carries
-        (files_of (now (D.facts.past disk.old))) →
-        bytes.now ≡ first_bytes queues header.file (Ours header) carries →
-        OnOk result (length (content (now (D.facts.past disk.new)) (log_of header.file))
-        ≡ length bytes.now) }
-    ensures others { IsTrue (D.facts.tells disk.old) → (queues : List QueueId)
-        (before : Found (wal queues)) (carries : List LogRecord) →
-        Continues (wal queues) top before header.file (Ours header) carries
-        (files_of (now (D.facts.past disk.old))) →
-        bytes.now ≡ first_bytes queues header.file (Ours header) carries →
+        ≡ lanes_shown queues (now (D.facts.past disk.old)))) }
+    ensures length { IsTrue (D.facts.tells disk.old) →
+        ForNewFile header bytes.now (now (D.facts.past disk.old)) (λ queues before.
+        OnOk result (length_in header (now (D.facts.past disk.new)) ≡ length bytes.now)) }
+    ensures others { IsTrue (D.facts.tells disk.old) →
+        ForNewFile header bytes.now (now (D.facts.past disk.old)) (λ queues before.
         OnOk result (SameOthers header.file (now (D.facts.past disk.old))
-        (now (D.facts.past disk.new))) }
+        (now (D.facts.past disk.new)))) }
     ensures beside { IsTrue (D.facts.tells disk.old) →
         StaysBeside (log_of header.file) (D.facts.past disk.old) (D.facts.past disk.new) }
-    ensures may { IsTrue (D.facts.tells disk.old) → (queues : List QueueId)
-        (before : Found (wal queues)) (carries : List LogRecord) →
-        Continues (wal queues) top before header.file (Ours header) carries
-        (files_of (now (D.facts.past disk.old))) →
-        bytes.now ≡ first_bytes queues header.file (Ours header) carries →
-        MayRecover queues (now (D.facts.past disk.new)) }
-    ensures behind { IsTrue (D.facts.tells disk.old) → (queues : List QueueId)
-        (before : Found (wal queues)) (carries : List LogRecord) →
-        Continues (wal queues) top before header.file (Ours header) carries
-        (files_of (now (D.facts.past disk.old))) →
-        bytes.now ≡ first_bytes queues header.file (Ours header) carries →
-        OnOk result (numbers_behind queues header (now (D.facts.past disk.new)) ≡ before.files) }
+    ensures may { IsTrue (D.facts.tells disk.old) →
+        ForNewFile header bytes.now (now (D.facts.past disk.old)) (λ queues before.
+        MayRecover queues (now (D.facts.past disk.new))) }
+    ensures behind { IsTrue (D.facts.tells disk.old) →
+        ForNewFile header bytes.now (now (D.facts.past disk.old)) (λ queues before.
+        OnOk result (numbers_behind queues header (now (D.facts.past disk.new)) ≡ before.files)) }
     ensures half { IsTrue (D.facts.tells disk.old) → IfErr result (λ e. e.1 ≡ true →
         IsHalfBegun header.file e.0 (now (D.facts.past disk.new))) }
     ensures failed { IfErr result (λ e. e.0 ≡ DiskFault.Failed → e.1 ≡ true) }
@@ -111,30 +85,26 @@ pub(crate) fn append_file<D: NodeDisk>(
     header: Header,
     bytes: &[u8],
 ) -> Result<(), DiskFault>
-    ensures stays { IsTrue (D.facts.tells disk.old) → (queues : List QueueId) (batch : List Op) →
-        IsWrittenTo queues header (now (D.facts.past disk.old))
-        → IsBatchOf queues header batch bytes.now →
+    ensures stays { IsTrue (D.facts.tells disk.old) →
+        ForBatch header bytes.now (now (D.facts.past disk.old)) (λ queues batch.
         MayAdd queues batch (now (D.facts.past disk.old)) →
-        StaysGiving queues batch (D.facts.past disk.old) (D.facts.past disk.new) }
-    ensures log { IsTrue (D.facts.tells disk.old) → (queues : List QueueId) (batch : List Op) →
-        IsWrittenTo queues header (now (D.facts.past disk.old))
-        → IsBatchOf queues header batch bytes.now →
-        OnOk result (IsWrittenTo queues header (now (D.facts.past disk.new))) }
-    ensures shown { IsTrue (D.facts.tells disk.old) → (queues : List QueueId) (batch : List Op) →
-        IsWrittenTo queues header (now (D.facts.past disk.old))
-        → IsBatchOf queues header batch bytes.now →
+        StaysGiving queues batch (D.facts.past disk.old) (D.facts.past disk.new)) }
+    ensures log { IsTrue (D.facts.tells disk.old) →
+        ForBatch header bytes.now (now (D.facts.past disk.old)) (λ queues batch.
+        OnOk result (IsWrittenTo queues header (now (D.facts.past disk.new)))) }
+    ensures shown { IsTrue (D.facts.tells disk.old) →
+        ForBatch header bytes.now (now (D.facts.past disk.old)) (λ queues batch.
         OnOk result (lanes_shown queues (now (D.facts.past disk.new))
         ≡ replay (wal queues) (op_records batch)
-        (lanes_shown queues (now (D.facts.past disk.old)))) }
-    ensures kept { IsTrue (D.facts.tells disk.old) → (queues : List QueueId) (batch : List Op) →
-        IsWrittenTo queues header (now (D.facts.past disk.old))
-        → IsBatchOf queues header batch bytes.now →
+        (lanes_shown queues (now (D.facts.past disk.old))))) }
+    ensures kept { IsTrue (D.facts.tells disk.old) →
+        ForBatch header bytes.now (now (D.facts.past disk.old)) (λ queues batch.
         OnOk result (lanes_kept queues header (now (D.facts.past disk.new))
-        ≡ lanes_kept queues header (now (D.facts.past disk.old))) }
+        ≡ lanes_kept queues header (now (D.facts.past disk.old)))) }
     ensures length { IsTrue (D.facts.tells disk.old) → (queues : List QueueId) →
         IsWrittenTo queues header (now (D.facts.past disk.old)) →
-        OnOk result (length (content (now (D.facts.past disk.new)) (log_of header.file))
-        ≡ length (content (now (D.facts.past disk.old)) (log_of header.file)) + length bytes.now) }
+        OnOk result (length_in header (now (D.facts.past disk.new))
+        ≡ length_in header (now (D.facts.past disk.old)) + length bytes.now) }
     ensures others { IsTrue (D.facts.tells disk.old) →
         OnOk result (SameOthers header.file (now (D.facts.past disk.old))
         (now (D.facts.past disk.new))) }
@@ -165,18 +135,17 @@ pub(crate) fn sync_file<D: NodeDisk>(
 ) -> Result<(), DiskFault>
     ensures stays { IsTrue (D.facts.tells disk.old) → (queues : List QueueId) →
         Stays queues (D.facts.past disk.old) (D.facts.past disk.new) }
-    ensures log { IsTrue (D.facts.tells disk.old) → (queues : List QueueId) →
-        IsWrittenTo queues header (now (D.facts.past disk.old)) →
-        (dirty ≡ false → IsSynced queues header (now (D.facts.past disk.old))) →
+    ensures log { IsTrue (D.facts.tells disk.old) →
+        ForLog header dirty (now (D.facts.past disk.old)) (λ queues.
         OnOk result (IsWrittenTo queues header (now (D.facts.past disk.new))
-        × IsSynced queues header (now (D.facts.past disk.new))) }
+        × IsSynced queues header (now (D.facts.past disk.new)))) }
     ensures shown { IsTrue (D.facts.tells disk.old) →
         OnOk result (shown_logs (files_of (now (D.facts.past disk.new)))
         ≡ shown_logs (files_of (now (D.facts.past disk.old)))) }
-    ensures noticed { IsTrue (D.facts.tells disk.old) → (queues : List QueueId) →
-        IsWrittenTo queues header (now (D.facts.past disk.old)) →
-        (dirty ≡ false → IsSynced queues header (now (D.facts.past disk.old))) →
-        OnOk result (MayNotice queues (now (D.facts.past disk.old)) (now (D.facts.past disk.new))) }
+    ensures noticed { IsTrue (D.facts.tells disk.old) →
+        ForLog header dirty (now (D.facts.past disk.old)) (λ queues.
+        OnOk result (MayNotice queues (now (D.facts.past disk.old))
+        (now (D.facts.past disk.new)))) }
     ensures beside { IsTrue (D.facts.tells disk.old) →
         StaysBeside (log_of header.file) (D.facts.past disk.old) (D.facts.past disk.new) }
     ensures may { IsTrue (D.facts.tells disk.old) → (queues : List QueueId) →

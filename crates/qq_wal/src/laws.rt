@@ -1,5 +1,5 @@
 //! Laws: the functions do nothing, and their contracts are the laws.
-ghost use Rattle.std.specs.Prelude.{◌≡◌, ◌≤◌, ◌<◌, ◌+◌, ◌-◌, ◌^◌, ◌⊎◌, ◌++◌, [], ℕ, Bool, true, false, All, IsTrue, List, Option, Some, drop, length, map, take, unwrap_or};
+ghost use Rattle.std.specs.Prelude.{◌≡◌, ◌≤◌, ◌<◌, ◌+◌, ◌-◌, ◌^◌, ◌⊎◌, ◌++◌, [], ℕ, Bool, true, false, All, IsSomeAnd, IsTrue, List, Option, drop, length, map, take};
 ghost use Rattle.std.specs.List.{fold};
 ghost use Rattle.qq_base.specs.Causes.{Rose};
 ghost use Rattle.qq_base.specs.declared.ids.Index.{Index};
@@ -8,14 +8,10 @@ ghost use Rattle.qq_base.specs.declared.ids.QueueId.{QueueId};
 ghost use Rattle.qq_base.specs.declared.ids.Term.{Term};
 ghost use Rattle.qq_disk.specs.Crash.{IsImage, Remains};
 ghost use Rattle.qq_disk.specs.Disk.{Disk, now};
-ghost use Rattle.qq_disk.specs.Image.{log_of};
-ghost use Rattle.qq_disk.specs.Moments.{Adds, IsRemoving};
 ghost use Rattle.qq_log.specs.declared.lane.Carry.{Carry};
 ghost use Rattle.qq_entry.specs.declared.command.Entry.{Entry};
 ghost use Rattle.qq_log.specs.declared.op.Op.{Op};
 ghost use Rattle.qq_log.specs.declared.op.Op.TheVariants.{Change};
-ghost use Rattle.qq_log.specs.Stable.{new_state};
-ghost use Rattle.qq_wal_chain.specs.Lanes.{Lanes};
 ghost use Rattle.qq_wal_chain.specs.Laws.{HoldsOps, IsHonestImage, KeepsPromise, lanes_read, op_records};
 ghost use Rattle.qq_wal_record.specs.declared.record.LogRecord.{LogRecord};
 ghost use Rattle.qq_wal.specs.Batch.{IsBatch, encodings};
@@ -31,7 +27,7 @@ ghost use Rattle.qq_wal.specs.declared.fault.WalFault.TheVariants.{Disk as DiskF
 ghost use Rattle.qq_wal.specs.Fault.{IsAppendCaused, IsCaused, IsGatherCaused, IsRollCaused};
 ghost use Rattle.qq_wal.specs.Marks.{known};
 ghost use Rattle.qq_wal.specs.Notices.{AreCounted, Tell, carried_op, note_record, notices_in, notices_of, sync_mark, synced_in, new_mark};
-ghost use Rattle.qq_wal.specs.Running.{top, HoldsAlso, IsOutside, MayNotice, SameLogs, Stays, StaysGiving, StillHolds};
+ghost use Rattle.qq_wal.specs.Running.{AddsBatch, HasAll, KeepsSince, MayNotice, RemovesOutside, SameLogs, Stays, StillHolds, op_in, top};
 ghost use Rattle.qq_wal.specs.Wal.{Appends, IsSound, StaysAppending};
 ghost use Rattle.qq_wal.specs.declared.wal.Wal.{Wal};
 
@@ -75,10 +71,9 @@ pub fn a_sync_counts_what_was_appended()
 /// the synced end of a file is honest.
 pub fn what_counts_as_synced_is_in_every_image<D: NodeDisk>()
     ensures { (w : Wal D) (i : Remains) (id : QueueId) → IsSound D.facts w →
-        IsTrue (D.facts.tells w.disk) → w.stopped ≡ false → IsImage (now (D.facts.past w.disk)) i →
-        IsHonestImage w.queues.items (now (D.facts.past w.disk)) i → (lanes : Lanes)
-        × (lanes_read w.queues.items top i ≡ Some lanes)
-        × (synced_in w.marks id ≤ (unwrap_or (lanes id.0) new_state).op) }
+        IsTrue (D.facts.tells w.disk) → w.stopped ≡ false →
+        let d = now (D.facts.past w.disk) in IsImage d i → IsHonestImage w.queues.items d i →
+        IsSomeAnd (lanes_read w.queues.items top i) (λ l. synced_in w.marks id ≤ op_in l id) }
 {
     the_log_has_a_format();
 }
@@ -88,9 +83,8 @@ pub fn what_counts_as_synced_is_in_every_image<D: NodeDisk>()
 pub fn a_file_that_is_not_read_may_go<D: NodeDisk>()
     ensures { (w : Wal D) (d : D) (m : ℕ) → IsSound D.facts w →
         D.facts.tells d ≡ D.facts.tells w.disk →
-        (IsTrue (D.facts.tells w.disk) → IsOutside w.queues.items w.header
-        (now (D.facts.past w.disk)) m
-        × IsRemoving (now (D.facts.past w.disk)) (log_of m) (now (D.facts.past d))) →
+        (IsTrue (D.facts.tells w.disk) → RemovesOutside w.queues.items w.header m
+        (now (D.facts.past w.disk)) (now (D.facts.past d))) →
         IsSound D.facts (record w { disk = d }) }
 {
     the_log_has_a_format();
@@ -128,9 +122,9 @@ pub fn the_log_tells_why_it_refuses()
 pub fn entries_lie_where_they_were_written()
     ensures first { LieAs [] new_ranges }
     ensures written { (files : List ℕ) (q : QueueRanges) (id : QueueId) (op : ℕ) (term : Term)
-        (vote : Option NodeId) (keep : Index) (entries : List Entry) → keep.0 ≤ length files →
-        LieAs files q → LieAs (files_behind files q.file (Change id op term vote keep entries))
-        (write keep.0 (length entries) q) }
+        (vote : Option NodeId) (keep : Index) (more : List Entry) → keep.0 ≤ length files →
+        LieAs files q → LieAs (files_behind files q.file (Change id op term vote keep more))
+        (write keep.0 (length more) q) }
     ensures begun { (files : List ℕ) (q : QueueRanges) (n : ℕ) → q.file < n →
         LieAs files q → LieAs files (begin_file n q) }
     ensures entered { (files : List ℕ) (q : QueueRanges) (n : ℕ) → q.file ≤ n →
@@ -143,17 +137,16 @@ pub fn entries_lie_where_they_were_written()
 /// gives each queue what these and all ops before them come to.
 pub fn what_is_appended_and_synced_is_kept()
     ensures { (queues : List QueueId) (batch noticed given : List Op)
-        (old appended synced : List Disk) → KeepsPromise queues top noticed given (now old) →
-        HoldsOps queues top given (now old) → StaysGiving queues batch old appended →
-        HoldsAlso queues batch (now old) (now appended) →
-        MayNotice queues (now appended) (now synced) →
+        (old appended synced : List Disk) → HasAll queues noticed given (now old) →
+        AddsBatch queues batch old appended → MayNotice queues (now appended) (now synced) →
         KeepsPromise queues top (given ++ batch) (given ++ batch) (now synced) }
 {}
 
 /// What an append and each other call of the log leave of what was promised, as far as they came.
 ///
 /// - `batch`: a batch is of the first ops that wait, as many as 8,192 ops and 4,194,304 bytes allow.
-/// - `appended`: the marks tell its ops too, the others wait on, and the log isn't stopped.
+/// - `appended`: the marks tell its ops too.
+/// - `rest`: the others wait on, and the log isn't stopped.
 /// - `failed`: an append that failed may have written some first part of what waited. So much is among the
 ///   given ops then, and what was promised is.
 /// - `stays`: of a sync and of a new file all that was promised is.
@@ -164,17 +157,15 @@ pub fn calls_keep_what_was_promised<D: NodeDisk>()
         ⊎ ((count ≡ 8192) ⊎ (4194304 < length (encodings n (take (count + 1) waiting))))) }
     ensures appended { (queues : List QueueId) (ops batch : List Op) (count : ℕ) (old new : Wal D) →
         Appends count old new → op_records batch ≡ take count old.waiting.items →
-        Tell queues old.marks ops → Tell queues new.marks (ops ++ batch)
-        × (new.waiting.items ≡ drop count old.waiting.items) × (new.stopped ≡ false) }
+        Tell queues old.marks ops → Tell queues new.marks (ops ++ batch) }
+    ensures rest { (count : ℕ) (old new : Wal D) → Appends count old new →
+        (new.waiting.items ≡ drop count old.waiting.items) × (new.stopped ≡ false) }
     ensures failed { (queues : List QueueId) (noticed given ops : List Op) (old new : List Disk) →
-        KeepsPromise queues top noticed given (now old) → HoldsOps queues top given (now old) →
-        StaysAppending queues (op_records ops) old new → (count : ℕ)
-        × Adds (KeepsPromise queues top noticed (given ++ take count ops)) old new
-        × KeepsPromise queues top noticed (given ++ take count ops) (now new) }
+        HasAll queues noticed given (now old) → StaysAppending queues (op_records ops) old new →
+        (count : ℕ) × KeepsSince queues noticed (given ++ take count ops) old new }
     ensures stays { (queues : List QueueId) (noticed given : List Op) (old new : List Disk) →
         KeepsPromise queues top noticed given (now old) → Stays queues old new →
-        Adds (KeepsPromise queues top noticed given) old new
-        × KeepsPromise queues top noticed given (now new) }
+        KeepsSince queues noticed given old new }
     ensures holds { (queues : List QueueId) (given : List Op) (d e : Disk) →
         HoldsOps queues top given d → StillHolds queues d e → HoldsOps queues top given e }
 {}

@@ -1,7 +1,6 @@
 //! The log that a node writes to.
 ghost use Rattle.std.specs.Prelude.{◌≡◌, ◌≤◌, ◌<◌, ◌+◌, ◌++◌, ◌∷◌, [], All, List, map, take, Ok, Err, true, false, IsTrue, IfOk, IfErr, OnOk, OnErr};
 ghost use Rattle.std.specs.Borrow.{Lends, sem};
-ghost use Rattle.qq_base.specs.declared.memory.TheConstants.{NUMBER_END};
 ghost use Rattle.qq_base.specs.Causes.{HasCause};
 ghost use Rattle.qq_disk.specs.Disk.{now};
 ghost use Rattle.qq_disk.specs.Image.{log_of};
@@ -17,7 +16,7 @@ ghost use Rattle.qq_wal.specs.Marks.{IsCarry};
 ghost use Rattle.qq_wal.specs.Notices.{notices_in, sync_mark, synced_in};
 ghost use Rattle.qq_wal.specs.Numbers.{greatest_number};
 ghost use Rattle.qq_wal.specs.Ranges.{ranges_in};
-ghost use Rattle.qq_wal.specs.Running.{MayBegin, Stays, StaysBeside, StaysGiving, StillMayRecover, HoldsAlso, StillHolds, MayNotice, numbers_behind, numbers_read};
+ghost use Rattle.qq_wal.specs.Running.{AddsBatch, MayBegin, Stays, StaysBeside, StillMayRecover, StillHolds, MayNotice, numbers_behind, numbers_read};
 ghost use Rattle.qq_wal.specs.Wal.{IsSound, IsBegun, carries_ahead, disk_of, SameFile, Appends, StaysAppending};
 
 use crate::batch::{BATCH_BYTES, BatchRoom, put_batch};
@@ -208,10 +207,8 @@ impl<D: NodeDisk> Wal<D> {
         ensures holds { IsTrue (D.facts.tells self.old.disk) →
             IfOk result (λ count. (batch : List Op) →
             op_records batch ≡ take count self.old.waiting.items →
-            StaysGiving self.old.queues.items batch
-            (D.facts.past self.old.disk) (D.facts.past self.new.disk)
-            × HoldsAlso self.old.queues.items batch
-            (now (D.facts.past self.old.disk)) (now (D.facts.past self.new.disk))) }
+            AddsBatch self.old.queues.items batch
+            (D.facts.past self.old.disk) (D.facts.past self.new.disk)) }
         ensures err { OnErr result (self.new ≡ record self.old {
           disk = self.new.disk;
           stopped = self.new.stopped;

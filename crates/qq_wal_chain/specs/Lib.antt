@@ -3,6 +3,7 @@ pub mod Format
 pub mod Image
 pub mod Lanes
 pub mod Laws
+pub mod Log
 pub mod Promise
 pub mod Records
 pub mod Wal

@@ -1,10 +1,9 @@
 //! The promise of the log, as laws: the functions do nothing, and their contracts are the laws.
-ghost use Rattle.std.specs.Prelude.{◌≡◌, ◌≢◌, ◌++◌, ℕ, List, [], ◌≤◌, Option, Some, None, false, length, nat_eq, take, unwrap_or};
-ghost use Rattle.std.specs.List.{AllByRecursion};
+ghost use Rattle.std.specs.Prelude.{◌≡◌, ◌≢◌, ◌++◌, ℕ, List, [], ◌≤◌, Option, Some, None, length, take, unwrap_or};
 ghost use Rattle.qq_base.specs.declared.ids.QueueId.{QueueId};
 ghost use Rattle.qq_disk.specs.declared.name.FileName.{FileName};
 ghost use Rattle.qq_disk.specs.declared.name.FileKind.TheVariants.{Log};
-ghost use Rattle.qq_disk.specs.Disk.{Disk, FileState, now, set, append, sync, IsListing};
+ghost use Rattle.qq_disk.specs.Disk.{Disk, FileState, now, set, sync, IsListing};
 ghost use Rattle.qq_disk.specs.Moments.{Adds, IsAppending, IsSyncing, IsRemoving};
 ghost use Rattle.qq_disk.specs.Crash.{Remains, IsImage, reopen};
 ghost use Rattle.qq_disk.specs.Image.{image_of, log_of};
@@ -12,14 +11,13 @@ ghost use Rattle.qq_disk.specs.declared.image.Image.{Image};
 ghost use Rattle.qq_log.specs.Stable.{Stable, new_state, stable};
 ghost use Rattle.qq_wal_chain.specs.Lanes.{FirstOpsGive, Lanes, RecoversLane, RecoversLanes, of_queue};
 ghost use Rattle.qq_log.specs.declared.op.Op.{Op};
-ghost use Rattle.qq_wal_record.specs.declared.record.LogRecord.{LogRecord};
 ghost use Rattle.qq_wal_chain.specs.Format.{IsFormat};
 ghost use Rattle.qq_base.specs.Fronts.{IsFront};
-ghost use Rattle.qq_wal_chain.specs.Chain.{Found, Reading};
 ghost use Rattle.qq_wal_chain.specs.Image.{HasNoJunk, IsHonest, files_of, shown_logs};
-ghost use Rattle.qq_wal_chain.specs.Promise.{StaysPromised, IsRunning, Continues, sync_all};
-ghost use Rattle.qq_wal_chain.specs.Wal.{wal, WholeHeader};
-ghost use Rattle.qq_wal_chain.specs.Laws.{KeepsPromise, HoldsOps, IsHonestImage, IsRecoverable, SettlesOn, op_records, batch_bytes, first_bytes, AreSound, AreWritable, IsSettledDisk};
+ghost use Rattle.qq_wal_chain.specs.Log.{Appends, Begins, Holds, IsAppendingTo, IsOutside, Keeps, MayBegin, RunningLog, Runs, RunsWith, Syncs, first_of};
+ghost use Rattle.qq_wal_chain.specs.Promise.{StaysPromised, sync_all};
+ghost use Rattle.qq_wal_chain.specs.Wal.{wal};
+ghost use Rattle.qq_wal_chain.specs.Laws.{KeepsPromise, IsHonestImage, IsRecoverable, SettlesOn, op_records, AreSound, AreWritable, IsSettledDisk};
 
 use qq_wal_record::{encodings_have_lengths, headers_read_back, records_read_back};
 
@@ -44,14 +42,10 @@ pub fn every_image_recovers()
 
 /// A batch that was appended and synced is in each image, with all that was given before it.
 pub fn a_stored_batch_is_in_every_image()
-    ensures { (queues : List QueueId) (bound n : ℕ) (h : WholeHeader)
-        (before : Found (wal queues)) (kept pending : List LogRecord)
-        (noticed given batch : List Op) (d mid e : Disk) →
-        IsRunning (wal queues) bound n h before kept pending d →
-        KeepsPromise queues bound noticed given d → HoldsOps queues bound given d →
-        AreSound queues (given ++ batch) → AreWritable n batch →
-        mid ≡ append d (log_of n) (batch_bytes queues n batch) → e ≡ sync mid (log_of n) →
-        IsRecoverable queues bound (given ++ batch) (given ++ batch) e }
+    ensures { (log : RunningLog) (noticed given batch : List Op) (d mid e : Disk) →
+        RunsWith log noticed given d → AreSound log.queues (given ++ batch) →
+        Appends log batch d mid → Syncs log mid e →
+        IsRecoverable log.queues log.bound (given ++ batch) (given ++ batch) e }
 {
     the_log_has_a_format();
 }
@@ -126,26 +120,15 @@ pub fn a_sync_keeps_the_promise()
 /// While a batch is appended the promise is kept at each moment, with the batch among what was
 /// given. Then the log goes on, with the batch waiting for a sync.
 pub fn an_append_keeps_the_promise()
-    ensures moments { (queues : List QueueId) (bound n : ℕ) (h : WholeHeader)
-        (before : Found (wal queues)) (kept pending : List LogRecord)
-        (noticed given batch : List Op) (old new : List Disk) →
-        IsRunning (wal queues) bound n h before kept pending (now old) →
-        KeepsPromise queues bound noticed given (now old) →
-        HoldsOps queues bound given (now old) → AreSound queues (given ++ batch) →
-        AreWritable n batch →
-        Adds (IsAppending (now old) (log_of n) (batch_bytes queues n batch)) old new →
-        Adds (KeepsPromise queues bound noticed (given ++ batch)) old new }
-    ensures log { (queues : List QueueId) (bound n : ℕ) (h : WholeHeader)
-        (before : Found (wal queues)) (kept pending : List LogRecord) (batch : List Op)
-        (d e : Disk) → IsRunning (wal queues) bound n h before kept pending d →
-        AreWritable n batch → e ≡ append d (log_of n) (batch_bytes queues n batch) →
-        IsRunning (wal queues) bound n h before kept (pending ++ op_records batch) e }
-    ensures holds { (queues : List QueueId) (bound n : ℕ) (h : WholeHeader)
-        (before : Found (wal queues)) (kept pending : List LogRecord) (given batch : List Op)
-        (d e : Disk) → IsRunning (wal queues) bound n h before kept pending d →
-        AreWritable n batch → HoldsOps queues bound given d →
-        e ≡ append d (log_of n) (batch_bytes queues n batch) →
-        HoldsOps queues bound (given ++ batch) e }
+    ensures moments { (log : RunningLog) (noticed given batch : List Op) (old new : List Disk) →
+        RunsWith log noticed given (now old) → AreSound log.queues (given ++ batch) →
+        AreWritable log.file batch → Adds (IsAppendingTo log batch (now old)) old new →
+        Adds (Keeps log noticed (given ++ batch)) old new }
+    ensures log { (log : RunningLog) (batch : List Op) (d e : Disk) → Runs log d →
+        Appends log batch d e →
+        Runs (record log { pending = log.pending ++ op_records batch }) e }
+    ensures holds { (log : RunningLog) (given batch : List Op) (d e : Disk) → Runs log d →
+        Holds log given d → Appends log batch d e → Holds log (given ++ batch) e }
 {
     the_log_has_a_format();
 }
@@ -153,19 +136,12 @@ pub fn an_append_keeps_the_promise()
 /// Once the newest file is synced, all that was given may be noticed, and nothing waits for a
 /// sync.
 pub fn what_is_synced_may_be_noticed()
-    ensures noticed { (queues : List QueueId) (bound n : ℕ) (h : WholeHeader)
-        (before : Found (wal queues)) (kept pending : List LogRecord) (noticed given : List Op)
-        (d e : Disk) → IsRunning (wal queues) bound n h before kept pending d →
-        KeepsPromise queues bound noticed given d → HoldsOps queues bound given d →
-        e ≡ sync d (log_of n) → KeepsPromise queues bound given given e }
-    ensures log { (queues : List QueueId) (bound n : ℕ) (h : WholeHeader)
-        (before : Found (wal queues)) (kept pending : List LogRecord) (d e : Disk) →
-        IsRunning (wal queues) bound n h before kept pending d → e ≡ sync d (log_of n) →
-        IsRunning (wal queues) bound n h before (kept ++ pending) [] e }
-    ensures holds { (queues : List QueueId) (bound n : ℕ) (h : WholeHeader)
-        (before : Found (wal queues)) (kept pending : List LogRecord) (given : List Op)
-        (d e : Disk) → IsRunning (wal queues) bound n h before kept pending d →
-        HoldsOps queues bound given d → e ≡ sync d (log_of n) → HoldsOps queues bound given e }
+    ensures noticed { (log : RunningLog) (noticed given : List Op) (d e : Disk) →
+        RunsWith log noticed given d → Syncs log d e → Keeps log given given e }
+    ensures log { (log : RunningLog) (d e : Disk) → Runs log d → Syncs log d e →
+        Runs (record log { kept = log.kept ++ log.pending; pending = [] }) e }
+    ensures holds { (log : RunningLog) (given : List Op) (d e : Disk) → Runs log d →
+        Holds log given d → Syncs log d e → Holds log given e }
 {
     the_log_has_a_format();
 }
@@ -173,22 +149,13 @@ pub fn what_is_synced_may_be_noticed()
 /// While a new file is begun behind what each image reads, the promise is kept at each moment.
 /// Once it is synced the log goes on there.
 pub fn a_new_file_keeps_the_promise()
-    ensures moments { (queues : List QueueId) (bound n : ℕ) (before : Found (wal queues))
-        (h : WholeHeader) (carries : List LogRecord) (old new : List Disk) →
-        Continues (wal queues) bound before n h carries (files_of (now old)) →
-        Adds (IsAppending (now old) (log_of n) (first_bytes queues n h carries)) old new →
-        StaysPromised (wal queues) bound old new }
-    ensures log { (queues : List QueueId) (bound n : ℕ) (before : Found (wal queues))
-        (h : WholeHeader) (carries : List LogRecord) (d mid e : Disk) →
-        Continues (wal queues) bound before n h carries (files_of d) →
-        mid ≡ append d (log_of n) (first_bytes queues n h carries) → e ≡ sync mid (log_of n) →
-        IsRunning (wal queues) bound n h before carries [] e }
-    ensures holds { (queues : List QueueId) (bound n : ℕ) (before : Found (wal queues))
-        (h : WholeHeader) (carries : List LogRecord) (given : List Op) (d mid e : Disk) →
-        Continues (wal queues) bound before n h carries (files_of d) →
-        HoldsOps queues bound given d →
-        mid ≡ append d (log_of n) (first_bytes queues n h carries) → e ≡ sync mid (log_of n) →
-        HoldsOps queues bound given e }
+    ensures moments { (log : RunningLog) (old new : List Disk) → MayBegin log (now old) →
+        Adds (IsAppending (now old) (log_of log.file) (first_of log)) old new →
+        StaysPromised (wal log.queues) log.bound old new }
+    ensures log { (log : RunningLog) (d mid e : Disk) → MayBegin log d → Begins log d mid →
+        Syncs log mid e → Runs (record log { pending = [] }) e }
+    ensures holds { (log : RunningLog) (given : List Op) (d mid e : Disk) → MayBegin log d →
+        Holds log given d → Begins log d mid → Syncs log mid e → Holds log given e }
 {
     the_log_has_a_format();
 }
@@ -196,17 +163,11 @@ pub fn a_new_file_keeps_the_promise()
 /// A log file that isn't in the chain may go: the promise is kept at each moment, and the log
 /// goes on.
 pub fn a_file_outside_the_chain_may_go()
-    ensures moments { (queues : List QueueId) (bound n m : ℕ) (h : WholeHeader)
-        (before : Found (wal queues)) (kept pending : List LogRecord) (old new : List Disk) →
-        IsRunning (wal queues) bound n h before kept pending (now old) → m ≢ n →
-        AllByRecursion (λ k. nat_eq m k ≡ false) before.files →
-        Adds (IsRemoving (now old) (log_of m)) old new →
-        StaysPromised (wal queues) bound old new }
-    ensures log { (queues : List QueueId) (bound n m : ℕ) (h : WholeHeader)
-        (before : Found (wal queues)) (kept pending : List LogRecord) (d e : Disk) →
-        IsRunning (wal queues) bound n h before kept pending d → m ≢ n →
-        AllByRecursion (λ k. nat_eq m k ≡ false) before.files → IsRemoving d (log_of m) e →
-        IsRunning (wal queues) bound n h before kept pending e }
+    ensures moments { (log : RunningLog) (file : ℕ) (old new : List Disk) → Runs log (now old) →
+        IsOutside log file → Adds (IsRemoving (now old) (log_of file)) old new →
+        StaysPromised (wal log.queues) log.bound old new }
+    ensures log { (log : RunningLog) (file : ℕ) (d e : Disk) → Runs log d → IsOutside log file →
+        IsRemoving d (log_of file) e → Runs log e }
 {
     the_log_has_a_format();
 }
@@ -218,11 +179,8 @@ pub fn other_kinds_play_no_part()
         (file : FileName) (state : Option FileState) → file.kind ≢ Log →
         KeepsPromise queues bound noticed given d →
         KeepsPromise queues bound noticed given (set d file state) }
-    ensures log { (queues : List QueueId) (bound n : ℕ) (h : WholeHeader)
-        (before : Found (wal queues)) (kept pending : List LogRecord) (d : Disk) (file : FileName)
-        (state : Option FileState) → file.kind ≢ Log →
-        IsRunning (wal queues) bound n h before kept pending d →
-        IsRunning (wal queues) bound n h before kept pending (set d file state) }
+    ensures log { (log : RunningLog) (d : Disk) (file : FileName) (state : Option FileState) →
+        file.kind ≢ Log → Runs log d → Runs log (set d file state) }
 {
     the_log_has_a_format();
 }
@@ -230,9 +188,8 @@ pub fn other_kinds_play_no_part()
 /// A log of which nothing waits for a sync reads the same in each image, so a new file may
 /// follow.
 pub fn a_synced_log_is_settled()
-    ensures { (queues : List QueueId) (bound n : ℕ) (h : WholeHeader)
-        (before : Found (wal queues)) (kept : List LogRecord) (d : Disk) →
-        IsRunning (wal queues) bound n h before kept [] d → IsSettledDisk queues bound d }
+    ensures { (log : RunningLog) (d : Disk) → log.pending ≡ [] → Runs log d →
+        IsSettledDisk log.queues log.bound d }
 {
     the_log_has_a_format();
 }

@@ -14,7 +14,7 @@ returns-clause-queue c = λ args group events row begun printed.
     AllByRecursion-in (IsAudited (audit_rows (queue_after args group events))) (Answered row)
     (all_said (begin args group) events) (c.what_is_printed_is_audited.ensures.answers args group events begun)
     (in_contains (all_said (begin args group) events) (Answered row) printed) in
-    (is.session, is.is_in, is.sender_is)
+    record { session = is.session; stands = is.is_in; to = is.sender_is }
 
 pub returns-clause-cluster : goal.returns-clause-cluster
 returns-clause-cluster c = λ setup events place row groups printed.
@@ -22,7 +22,7 @@ returns-clause-cluster c = λ setup events place row groups printed.
     AllByRecursion-in (IsTrueOf (cluster_after (new_cluster setup) events)) (Of place (Answered row))
     (all_prints setup (new_cluster setup) events) (c.a_cluster_prints_what_is_true.ensures setup events groups)
     (in_contains (all_prints setup (new_cluster setup) events) (Of place (Answered row)) printed) in
-    (is.0.session, is.0.is_in, is.0.sender_is)
+    record { session = is.0.session; stands = is.0.is_in; to = is.0.sender_is }
 
 pub returns-clause-delivered : goal.returns-clause-delivered
 returns-clause-delivered c = λ setup events place consumer delivery groups printed.

@@ -7,7 +7,7 @@ returns-clause-promised c = λ setup d k disk linked. linked.promised
 pub returns-clause-tied : goal.returns-clause-tied
 returns-clause-tied c = λ setup d k disk linked up.
     let t = linked.tied up in
-    (t.noticed, t.given, t.holds, tied-words setup d k disk t)
+    record { noticed = t.noticed; given = t.given; holds = t.holds; each = tied-words setup d k disk t }
 
 pub returns-clause-members : goal.returns-clause-members
 returns-clause-members c = member-follows

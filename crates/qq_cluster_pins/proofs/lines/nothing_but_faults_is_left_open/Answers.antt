@@ -7,22 +7,22 @@ use Rattle.qq_cluster_pins.proofs.Faults.{fine-from, found-none, from-fine, verd
 use Rattle.qq_cluster_pins.proofs.lines.nothing_but_faults_is_left_open.Goals as goal
 
 pub returns-clause-line : goal.returns-clause-line
-returns-clause-line c = λ setup line d events others first second fine found none.
+returns-clause-line c = λ setup line d events others first second fine sound found missed none unasked.
     c.lines_settle.ensures.line setup line d events others first second
-    (fine-from events (λ k here. (fine k).0 (Contains-in (Fails k) events here)))
-    (fine-from others (λ k here. (fine k).1 (Contains-in (Fails k) others here)))
-    (found-none events (λ k ops here. (found k ops).0 (Contains-in (FindsEach k ops) events here))
-    ∙ sym (found-none others (λ k ops here. (found k ops).1 (Contains-in (FindsEach k ops) others here))))
-    (verdicts-none events (λ place v here. (none place v).0 (Contains-in (At place (Judges v)) events here))
-    ∙ sym (verdicts-none others (λ place v here. (none place v).1 (Contains-in (At place (Judges v)) others here))))
+    (fine-from events (λ k here. fine k (Contains-in (Fails k) events here)))
+    (fine-from others (λ k here. sound k (Contains-in (Fails k) others here)))
+    (found-none events (λ k ops here. found k ops (Contains-in (FindsEach k ops) events here))
+    ∙ sym (found-none others (λ k ops here. missed k ops (Contains-in (FindsEach k ops) others here))))
+    (verdicts-none events (λ place v here. none place v (Contains-in (At place (Judges v)) events here))
+    ∙ sym (verdicts-none others (λ place v here. unasked place v (Contains-in (At place (Judges v)) others here))))
 
 pub returns-clause-judged : goal.returns-clause-judged
-returns-clause-judged c = λ setup line d events others first second fine found same.
+returns-clause-judged c = λ setup line d events others first second fine sound found missed same.
     c.lines_settle.ensures.line setup line d events others first second
-    (fine-from events (λ k here. (fine k).0 (Contains-in (Fails k) events here)))
-    (fine-from others (λ k here. (fine k).1 (Contains-in (Fails k) others here)))
-    (found-none events (λ k ops here. (found k ops).0 (Contains-in (FindsEach k ops) events here))
-    ∙ sym (found-none others (λ k ops here. (found k ops).1 (Contains-in (FindsEach k ops) others here)))) same
+    (fine-from events (λ k here. fine k (Contains-in (Fails k) events here)))
+    (fine-from others (λ k here. sound k (Contains-in (Fails k) others here)))
+    (found-none events (λ k ops here. found k ops (Contains-in (FindsEach k ops) events here))
+    ∙ sym (found-none others (λ k ops here. missed k ops (Contains-in (FindsEach k ops) others here)))) same
 
 pub returns-clause-verdicts : goal.returns-clause-verdicts
 returns-clause-verdicts c = refl

@@ -16,9 +16,7 @@ returns-clause-disks c = λ setup d last done a b before later k served.
 
 pub returns-clause-happened : goal.returns-clause-happened
 returns-clause-happened c = λ setup d last done a b before later k did.
-    let text = happened-text setup d last done a b before later did in
-    let disks = happened-disks setup d last done a b before later did k in
-    (text.0, text.1, text.2, disks.0, disks.1)
+    (happened-text setup d last done a b before later did, happened-disks setup d last done a b before later did k)
 
 pub returns-clause-given_up : goal.returns-clause-given_up
 returns-clause-given_up c = given-up

@@ -21,5 +21,7 @@ returns-clause-restart c = λ setup d j k ops old new other.
     others-keep setup d k (FindsEach j ops) old new (ne_eqb j k other)
 
 pub returns-clause-queue : goal.returns-clause-queue
-returns-clause-queue c = λ setup d j k place at session body old new.
-    ((λ same. same), (λ same. same), (λ same. same), (λ same. same), (λ same. same))
+returns-clause-queue c = λ setup d j k place at old new. ((λ same. same), (λ same. same), (λ same. same))
+
+pub returns-clause-client : goal.returns-clause-client
+returns-clause-client c = λ setup d k place session body old new. ((λ same. same), (λ same. same))

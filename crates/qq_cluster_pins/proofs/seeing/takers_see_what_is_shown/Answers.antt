@@ -28,9 +28,10 @@ pub returns-clause-same : goal.returns-clause-same
 returns-clause-same c = λ all place session number. refl
 
 pub returns-clause-unheard : goal.returns-clause-unheard
-returns-clause-unheard c = λ all place session id row d consumer nobody. (
-  unheard _ all nobody,
-  unheard _ all nobody,
+returns-clause-unheard c = λ all place row d consumer nobody. (unheard _ all nobody, unheard _ all nobody)
+
+pub returns-clause-unrefused : goal.returns-clause-unrefused
+returns-clause-unrefused c = λ all place session id nobody. (
   unheard _ all nobody,
   unheard _ all nobody,
   unheard _ all nobody,

@@ -6,12 +6,12 @@ use Rattle.qq_raft_protocol.specs.World.{World}
 use Rattle.qq_group_laws.proofs.members.a_leader_has_the_entries_of_its_term.Goals as goal
 
 pub returns-clause-acks : goal.returns-clause-acks
-returns-clause-acks c = λ members member audit moves w q ack start may is leads said same.
-    subst AcksWithin (sym is) (c.a_leader_has_all_of_its_term.ensures.acks members member audit moves start may) q ack
-    leads said same
+returns-clause-acks c = λ members w q ack of leads said same.
+    subst AcksWithin (sym of.is) (c.a_leader_has_all_of_its_term.ensures.acks members of.member of.audit of.moves of.start
+    of.allowed) q ack leads said same
 
 pub returns-clause-first : goal.returns-clause-first
-returns-clause-first c = λ members member audit moves w q before entry start may is stands most front same.
-    subst (IsFirst members) (sym is)
-    (c.a_leader_has_all_of_its_term.ensures.first members member audit moves start may) q stands most before entry front
-    same
+returns-clause-first c = λ members w q before entry of stands most front same.
+    subst (IsFirst members) (sym of.is)
+    (c.a_leader_has_all_of_its_term.ensures.first members of.member of.audit of.moves of.start of.allowed) q stands most
+    before entry front same

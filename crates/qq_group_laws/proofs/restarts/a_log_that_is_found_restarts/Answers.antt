@@ -8,7 +8,8 @@ returns-clause-found g c = λ h k l old seat stands finds there known.
 
 pub returns-clause-left : goal.returns-clause-left
 returns-clause-left g c = λ h k l old seat stands finds there known.
-    left h k l (found g.L.LogView.log h k l old seat stands finds there known)
+    let lane = left h k l (found g.L.LogView.log h k l old seat stands finds there known) in
+    (lane.0, lane.1, (lane.2, lane.3, lane.4))
 
 pub returns-clause-restarts : goal.returns-clause-restarts
 returns-clause-restarts g c = λ h k l old new seat stands makes there known.

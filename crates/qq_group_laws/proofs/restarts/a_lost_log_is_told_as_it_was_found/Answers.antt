@@ -14,8 +14,8 @@ pub returns-clause-known : goal.returns-clause-known
 returns-clause-known g c = λ k noticed found l old cause. known-seat (slice_get old.seats.items k) cause.0.known
 
 pub returns-clause-lost : goal.returns-clause-lost
-returns-clause-lost g c = λ h k noticed found l old stands cause late handed is.
-    cause.0.other h stands (record { noticed = late; handed = handed; is = is })
+returns-clause-lost g c = λ h k noticed found l old stands cause comes.
+    cause.0.other h stands (record { noticed = comes.0; handed = comes.1; is = comes.2 })
 
 pub returns-clause-memory : goal.returns-clause-memory
 returns-clause-memory g c = λ k l old e cause. cause

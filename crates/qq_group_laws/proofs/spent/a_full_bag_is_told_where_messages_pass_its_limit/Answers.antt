@@ -11,7 +11,9 @@ pub returns-clause-command : goal.returns-clause-command
 returns-clause-command g c = λ node time command old s up cause. own-limit _ _ (rw up at cause)
 
 pub returns-clause-message : goal.returns-clause-message
-returns-clause-message g c = λ place old rpc s sound there up cause.
+returns-clause-message g c = λ place old rpc s sound is_for cause.
+    let there = is_for.0 in
+    let up = is_for.1 in
     let k = (envelope rpc).to.0 in
     let has = served-state g.Q.Queue.stands g.L.LogView.log g.Q.Queue.applied (server_at k old) s up
     (sound.servers k) in

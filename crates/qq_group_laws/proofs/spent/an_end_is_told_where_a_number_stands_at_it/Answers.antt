@@ -1,3 +1,4 @@
+use Rattle.std.proofs.Common.{refl}
 use Rattle.qq_raft_core.specs.Raft.{server_of}
 use Rattle.qq_raft_model.specs.Server.{notice, receive}
 use Rattle.qq_raft.specs.Stands.{state_of}
@@ -12,16 +13,20 @@ pub returns-clause-command : goal.returns-clause-command
 returns-clause-command g c = λ node time command old s up cause. own-end _ _ (rw up at cause)
 
 pub returns-clause-message : goal.returns-clause-message
-returns-clause-message g c = λ place old rpc s plain made there up stood is cause.
+returns-clause-message g c = λ place old rpc s plain is_for stood cause.
+    let there = is_for.0 in
+    let up = is_for.1 in
     let given = rw there at cause in
     end-or-passing g.Q.Queue.step g.Q.Queue.passes_end (server_of g.L.LogView.log s.raft)
-    (with_raft (receive rpc (server_of g.L.LogView.log s.raft)) (state_of g.L.LogView.log plain s)) made is
+    (with_raft (receive rpc (server_of g.L.LogView.log s.raft)) (state_of g.L.LogView.log plain s))
+    (with_raft (receive rpc (server_of g.L.LogView.log s.raft)) (state_of g.L.LogView.log plain s)) refl
     (queue-end (λ p. g.Q.Queue.stands p s.machine) _ _ plain stood (rw up at given))
 
 pub returns-clause-notice : goal.returns-clause-notice
-returns-clause-notice g c = λ node op old s plain made up stood is cause.
+returns-clause-notice g c = λ node op old s plain up stood cause.
     end-or-passing g.Q.Queue.step g.Q.Queue.passes_end (server_of g.L.LogView.log s.raft)
-    (with_raft (notice op (server_of g.L.LogView.log s.raft)) (state_of g.L.LogView.log plain s)) made is
+    (with_raft (notice op (server_of g.L.LogView.log s.raft)) (state_of g.L.LogView.log plain s))
+    (with_raft (notice op (server_of g.L.LogView.log s.raft)) (state_of g.L.LogView.log plain s)) refl
     (queue-end (λ p. g.Q.Queue.stands p s.machine) _ _ plain stood (rw up at cause))
 
 pub returns-clause-add : goal.returns-clause-add

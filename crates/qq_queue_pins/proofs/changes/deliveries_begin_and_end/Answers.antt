@@ -3,7 +3,7 @@ use Rattle.qq_queue_pins.proofs.changes.deliveries_begin_and_end.Goals as goal
 pub returns-clause-begins : goal.returns-clause-begins
 returns-clause-begins c = λ x consumer m s effects stands whole there.
     let after = c.consumers_are_served.ensures.delivers x consumer m s stands whole there effects in
-    (after.stands, after.whole, after.effects)
+    ((after.stands, after.whole), after.effects)
 
 pub returns-clause-found : goal.returns-clause-found
 returns-clause-found c = λ consumer id m s stands whole. (c.deliveries_end.ensures consumer id m s stands whole).found

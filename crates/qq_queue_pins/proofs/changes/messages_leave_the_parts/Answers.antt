@@ -17,9 +17,9 @@ returns-clause-goes c = λ x m s reason stands whole.
 pub returns-clause-dies : goal.returns-clause-dies
 returns-clause-dies c = λ x m s reason effects stands whole.
     let after = (c.messages_come_and_go.ensures.leaves x m s stands whole).dies reason effects in
-    (after.stands, after.whole, after.effects)
+    ((after.stands, after.whole), after.effects)
 
 pub returns-clause-returns : goal.returns-clause-returns
 returns-clause-returns c = λ x m s effects stands whole.
     let after = (c.messages_come_and_go.ensures.leaves x m s stands whole).returns effects in
-    (after.stands, after.whole, after.effects)
+    ((after.stands, after.whole), after.effects)

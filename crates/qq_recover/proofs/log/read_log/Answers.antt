@@ -55,7 +55,7 @@ returns-in-Ok-clause-lanes g c = λ told listing.
     subst (λ (read : Answer Lanes). Gives (λ log. lanes_of log.table) c.put_together.result read)
     (ap (replay_files queues ends.files) c.in_ok-table.ensures.empty
     ∙ sym (lanes-replayed queues logs n ends.files is ends.is))
-    (c.put_together.ensures.gives ended queues ends.files c.in_ok-table.ensures.lists ends.are stand)
+    (c.put_together.ensures.gives ended queues ends.files ends.are stand c.in_ok-table.ensures.lists)
 
 pub returns-in-Ok-clause-newest : goal.returns-in-Ok-clause-newest
 returns-in-Ok-clause-newest g c = λ told listing.
@@ -125,5 +125,5 @@ returns-in-Ok-clause-chain g c = λ told listing.
     (subst (λ (read : Answer Lanes). Gives (λ log. lanes_of log.table) c.put_together.result read)
     (ap (replay_files queues ends.files) c.in_ok-table.ensures.empty
     ∙ sym (lanes-replayed queues logs n ends.files is ends.is))
-    (c.put_together.ensures.gives ended queues ends.files c.in_ok-table.ensures.lists ends.are stand))
+    (c.put_together.ensures.gives ended queues ends.files ends.are stand c.in_ok-table.ensures.lists))
     c.put_together.ensures.chain

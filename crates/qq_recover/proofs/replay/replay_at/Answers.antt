@@ -12,7 +12,7 @@ use Rattle.qq_recover.proofs.Passing.{get-any}
 use Rattle.qq_recover.proofs.replay.replay_at.Goals as goal
 
 pub returns-in-Ok-clause-gives : goal.returns-in-Ok-clause-gives
-returns-in-Ok-clause-gives g c = λ told queues file lists again other same.
+returns-in-Ok-clause-gives g c = λ told queues file again other same lists.
     let end = c.index-chain-place.result in
     let read : file ≡ c.in-Ok.file =
     same-ok file c.in-Ok.file (c.in-Ok.ensures.gives told queues file again
@@ -32,7 +32,7 @@ returns-in-Ok-clause-ranges g c = λ told queues file again other same.
     c.add_file.ensures.ranges
 
 pub returns-in-Err-clause-gives : goal.returns-in-Err-clause-gives
-returns-in-Err-clause-gives g c = λ told queues file lists again other same.
+returns-in-Err-clause-gives g c = λ told queues file again other same lists.
     let end = c.index-chain-place.result in
     fails-ok c.in-Err.fault file (replay_records queues file.number file.records (lanes_of c.args.table.now))
     (c.in-Err.ensures.gives told queues file again

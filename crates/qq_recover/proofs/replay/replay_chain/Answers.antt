@@ -31,7 +31,7 @@ files-preserved g c = record {
       passed-on queues files c.files.left d (omega arith) (omega (arith, many, inv.within)) (lanes_of c.files.table)
       (replay_files queues files (lanes_of c.args.table.now)) (inv.gives told queues files lists are again)
       (lanes_of c.replay_at.new.table)
-      (c.in_default.ensures.gives here queues file (inv.lists queues lists) stands e ends);
+      (c.in_default.ensures.gives here queues file stands e ends (inv.lists queues lists));
   ranges = λ told queues files are again.
       let facts = g.D.NodeDisk.facts in
       let inv = c.files.invariant in
@@ -54,7 +54,7 @@ files-preserved g c = record {
 }
 
 pub returns-in-Err-clause-gives : goal.returns-in-Err-clause-gives
-returns-in-Err-clause-gives g c = λ told queues files lists are again.
+returns-in-Err-clause-gives g c = λ told queues files are again lists.
     let facts = g.D.NodeDisk.facts in
     let inv = c.files.invariant in
     let d : ChainFile = record { number = 0; end = 0; records = [] } in
@@ -69,4 +69,4 @@ returns-in-Err-clause-gives g c = λ told queues files lists are again.
     let ends = ends-at files c.args.chain.now (c.files.left - 1) d e are (omega (arith, inv.within)) in
     passed-refused queues files c.files.left d (omega arith) (omega (arith, many, inv.within)) (lanes_of c.files.table)
     (replay_files queues files (lanes_of c.args.table.now)) (inv.gives told queues files lists are again) c.in-Err.fault
-    (c.in-Err.ensures.gives here queues file (inv.lists queues lists) stands e ends)
+    (c.in-Err.ensures.gives here queues file stands e ends (inv.lists queues lists))

@@ -6,18 +6,18 @@ use Rattle.qq_wal_chain.proofs.Calls.{begin-done, begin-holds, begin-stays}
 use Rattle.qq_wal_chain.proofs.laws.a_new_file_keeps_the_promise.Goals as goal
 
 pub returns-clause-moments : goal.returns-clause-moments
-returns-clause-moments c = λ queues bound n before h carries old new goes_on a. begin-stays (wal queues)
-    (c.the_log_has_a_format.ensures queues) bound before n h carries (now old) goes_on old new refl a
+returns-clause-moments c = λ log old new may a.
+    begin-stays (wal log.queues) (c.the_log_has_a_format.ensures log.queues) log.bound log.before log.file log.header
+    log.kept (now old) may old new refl a
 
 pub returns-clause-log : goal.returns-clause-log
-returns-clause-log c = λ queues bound n before h carries d mid e goes_on first second. record {
-  log = begin-done (wal queues) (c.the_log_has_a_format.ensures queues) bound before n h carries d goes_on mid e first
-      second;
-  fit
-      = tt;
+returns-clause-log c = λ log d mid e may first second. record {
+  log = begin-done (wal log.queues) (c.the_log_has_a_format.ensures log.queues) log.bound log.before log.file
+      log.header log.kept d may mid e first second;
+  fit = tt;
 }
 
 pub returns-clause-holds : goal.returns-clause-holds
-returns-clause-holds c = λ queues bound n before h carries given d mid e goes_on holds first second. begin-holds
-    (wal queues) (c.the_log_has_a_format.ensures queues) bound before n h carries d goes_on (op_records given) mid e
-    holds first second
+returns-clause-holds c = λ log given d mid e may holds first second.
+    begin-holds (wal log.queues) (c.the_log_has_a_format.ensures log.queues) log.bound log.before log.file log.header
+    log.kept d may (op_records given) mid e holds first second

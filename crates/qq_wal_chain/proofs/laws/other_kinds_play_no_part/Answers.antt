@@ -12,5 +12,6 @@ returns-clause-promise c = λ queues bound noticed given d file state other keep
     file state (apart-kind file other) keeps
 
 pub returns-clause-log : goal.returns-clause-log
-returns-clause-log c = λ queues bound n h before kept pending d file state other running.
-    other-kind-runs (wal queues) bound n h before kept pending d file state (apart-kind file other) running
+returns-clause-log c = λ log d file state other runs.
+    other-kind-runs (wal log.queues) log.bound log.file log.header log.before log.kept log.pending d file state
+    (apart-kind file other) runs

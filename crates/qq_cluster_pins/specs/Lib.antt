@@ -1,0 +1,4 @@
+pub mod Left
+pub mod Done
+pub mod Served
+pub mod Asked
