@@ -1,0 +1,3 @@
+mod Clusters
+mod Exchange
+mod Queues
