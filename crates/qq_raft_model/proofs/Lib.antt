@@ -21,6 +21,7 @@ mod Noticing
 mod Opened
 mod Opening
 mod Promises
+mod Ready
 pub mod Reached
 pub mod Refining
 pub mod Restarting

@@ -28,7 +28,8 @@ pub fn a_term_has_one_leader()
 
 /// A law: what a server knows to be committed is of its log and begins the group's one audit, and
 /// whatever happens later, the audit only grows (section 3.6.3). The audit that the logs supported at the
-/// start and the group's audit begin the longer of both.
+/// start and the group's audit begin the longer of both. What a ready leader knows to be committed begins
+/// with the audit of the start, so that it is in the group's own audit from then on.
 pub fn what_a_group_committed_stays()
     ensures known { (g : Group) (whole : List Entry) (events : List Event) (k : ℕ) (s : Server) →
         AreDistinct g.nodes → IsOpened g whole → IsUp (group_after g events) k s →
@@ -42,6 +43,9 @@ pub fn what_a_group_committed_stays()
     ensures whole { (g : Group) (whole : List Entry) (events : List Event) → AreDistinct g.nodes →
         IsOpened g whole → IsFront whole (whole_audit whole (group_after g events)) ×
         IsFront (group_after g events).audit (whole_audit whole (group_after g events)) }
+    ensures ready { (g : Group) (whole : List Entry) (events : List Event) (k : ℕ) (s : Server) →
+        AreDistinct g.nodes → IsOpened g whole → IsUp (group_after g events) k s →
+        is_ready s ≡ true → IsFront whole (take s.commit s.log) }
 {}
 
 /// A law: where a ready leader took a command, and a leader of its term, as it is mostly itself,

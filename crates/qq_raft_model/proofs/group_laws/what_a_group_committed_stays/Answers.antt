@@ -3,6 +3,7 @@ use Rattle.qq_raft_model.specs.Group.{group_after}
 use Rattle.qq_raft_model.proofs.Happening.{group-follows}
 use Rattle.qq_raft_model.proofs.Opening.{audit-begins, follows-opened, opening, start-begins}
 use Rattle.qq_raft_model.proofs.Promises.{commit-within}
+use Rattle.qq_raft_model.proofs.Ready.{ready-begins}
 use Rattle.qq_raft_model.proofs.group_laws.what_a_group_committed_stays.Goals as goal
 
 pub returns-clause-known : goal.returns-clause-known
@@ -22,3 +23,6 @@ returns-clause-audit c = λ g whole first second distinct o.
 pub returns-clause-whole : goal.returns-clause-whole
 returns-clause-whole c = λ g whole events distinct o.
     (start-begins g whole events distinct o, audit-begins g whole events distinct o)
+
+pub returns-clause-ready : goal.returns-clause-ready
+returns-clause-ready c = ready-begins
